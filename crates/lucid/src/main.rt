@@ -48,9 +48,9 @@ fn status_by<P: Places, K: Sink, E: Sink>(
 ) -> Status
     requires { (P.world places.old).reached ≡ 0 }
     ensures call { IfOk arguments (λ words. MeetsClauses
-        (call (words_asked (map string_bytes (drop 1 words.items))) (P.world places.old) (P.world places.new) (told K.written K.faults out.old) (told K.written K.faults out.new))
-        (told E.written E.faults report.old) (told E.written E.faults report.new) result) }
-    ensures told { IfErr arguments (λ stop. Tells (Err stop) result (told E.written E.faults report.old) (told E.written E.faults report.new)) }
+        (call (words_asked (map string_bytes (drop 1 words.items))) (P.world places.old) (P.world places.new) (told K.written K.faults K.late out.old) (told K.written K.faults K.late out.new))
+        (told E.written E.faults E.late report.old) (told E.written E.faults E.late report.new) result) }
+    ensures told { IfErr arguments (λ stop. Tells (Err stop) result (told E.written E.faults E.late report.old) (told E.written E.faults E.late report.new)) }
     ensures untouched { OnErr arguments ((places.new ≡ places.old) × (out.new ≡ out.old)) }
 {
     match arguments {

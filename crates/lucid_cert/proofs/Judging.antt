@@ -1,7 +1,7 @@
 -- A check judgment by judgment, and how it ends.
 use Rattle.lucid_cert.proofs.CheckCommon.{◌≡◌, ℕ, ◌+◌, ◌<◌, ◌≤◌, true, false, length, inl, inr, refl, sym, ap, ◌∙◌, subst, arith, Result, Ok, Err, cases_eq, Elements, AllDiffer, World, Inputs, most_bytes, stream_at, streams, Extends, Table, elements_read, places_of, extends_then, streams_read, read_more, Why, contexts, IsOfRoot, MayBe, Checked, LiesWithin, TellsElement, DrawsFor, ReadsFor, nothing_read, element_read, CheckFault, Wrong, NoMemory}
 use Rattle.std.proofs.Common.{Bool}
-use Rattle.lucid_ports.specs.Faults.{Rises, CountsNoFaultUnless}
+use Rattle.lucid_ports.specs.Faults.{Rises, AsksNoneLate, CountsNoFaultUnless}
 use Rattle.lucid_cert_rules.specs.Follows.{Follows, AllFollow}
 use Rattle.lucid_cert.specs.Checked.{not_following, not_of_root, TellsPast, NoneTellsPast, HasLooked}
 use Rattle.lucid_cert.specs.declared.fault.CheckFault.TheVariants.{ReadFault, TooLarge}
@@ -25,9 +25,9 @@ module _ (T : Table) (w : Why) (old : Inputs) (before : World) where
   }
 
   -- there is no memory
-  pub no_memory : (n : ℕ) (now : Inputs) (mid : World) → n ≤ length w.judgments → Read n now mid → mid.faults ≡ before.faults
+  pub no_memory : (n : ℕ) (now : Inputs) (mid : World) → n ≤ length w.judgments → Read n now mid → mid.faults ≡ before.faults → AsksNoneLate before mid
       → Checked T w old now before mid (Err NoMemory)
-  no_memory n now mid l r same = record {
+  no_memory n now mid l r same late = record {
     right = tt;
     wrong = tt;
     too_large = tt;
@@ -35,6 +35,7 @@ module _ (T : Table) (w : Why) (old : Inputs) (before : World) where
     within = (tt, tt);
     failed = λ q. absurd (cc);
     counts = inr same;
+    late = late;
     looked = has_looked n now mid l r;
     drawn = tt;
   }
@@ -45,9 +46,10 @@ module _ (T : Table) (w : Why) (old : Inputs) (before : World) where
     pub follow : (b : Elements) → MayBe T now b → AllFollow T b w n
     pub within : NoneTellsPast T w old before n
     pub faults : mid.faults ≡ before.faults
+    pub late : AsksNoneLate before mid
 
   pub none_so_far : Read 0 old before → FollowSoFar 0 old before
-  none_so_far r = record { read = r; follow = λ b m i l. absurd (omega (arith, l)); within = λ i k j l. absurd (omega (arith, l)); faults = refl }
+  none_so_far r = record { read = r; follow = λ b m i l. absurd (omega (arith, l)); within = λ i k j l. absurd (omega (arith, l)); faults = refl; late = λ good. refl }
 
   below_or : (P : ℕ → Type 0) (n : ℕ) → ((i : ℕ) → i < n → P i) → P n → (i : ℕ) → i < n + 1 → P i
   below_or P n f p i l = elim (cases_eq i n) [ inl e ↦ subst P (sym e) p | inr e ↦ f i (omega (arith, l, e)) ]
@@ -89,6 +91,10 @@ module _ (T : Table) (w : Why) (old : Inputs) (before : World) where
         none (inl e) = absurd (cc)
         none (inr e) = e
 
+    none_late : (result : Result Bool CheckFault) → LooksAt n now next mid after result → AsksNoneLate before after
+    none_late result (nothing_read none e f own) good = ap (λ (x : World). x.late) f ∙ s.late good
+    none_late result (element_read k j t r) good = r.late (s.faults ∙ good) ∙ s.late good
+
     -- This judgment follows as well;
     pub one_follows : LooksAt n now next mid after (Ok true) → ((b : Elements) → MayBe T next b → Follows T b w n) → FollowSoFar (n + 1) next after
     one_follows l f = record {
@@ -96,6 +102,7 @@ module _ (T : Table) (w : Why) (old : Inputs) (before : World) where
       follow = λ b m. below_or (λ i. Follows T b w i) n (followed (Ok true) l b m) (f b m);
       within = none_past true l;
       faults = no_fault true l;
+      late = none_late (Ok true) l;
     }
 
     looked : (result : Result Bool CheckFault) → LooksAt n now next mid after result → n < length w.judgments → HasLooked T w old next before after
@@ -112,6 +119,7 @@ module _ (T : Table) (w : Why) (old : Inputs) (before : World) where
       within = (tt, none_past false l);
       failed = λ q. absurd (cc);
       counts = inr (no_fault false l);
+      late = none_late (Ok false) l;
       looked = looked (Ok false) l lt;
       drawn = (on (Ok false) l).drawn;
     }
@@ -163,6 +171,7 @@ module _ (T : Table) (w : Why) (old : Inputs) (before : World) where
         within = (tt, tt);
         failed = λ q. no_read l;
         counts = inl refl;
+        late = none_late (Err ReadFault) l;
         looked = looked (Err ReadFault) l lt;
         drawn = tt;
       }
@@ -174,10 +183,12 @@ module _ (T : Table) (w : Why) (old : Inputs) (before : World) where
         within = (tt, tt);
         failed = λ q. absurd (cc);
         counts = inr (not_counted (TooLarge k) (λ q. absurd (cc)) l);
+        late = none_late (Err (TooLarge k)) l;
         looked = looked (Err (TooLarge k)) l lt;
         drawn = tt;
       }
       one_refused NoMemory l = no_memory (n + 1) next after (omega (arith, lt)) (on (Err NoMemory) l) (not_counted NoMemory (λ q. absurd (cc)) l)
+          (none_late (Err NoMemory) l)
 
   -- All judgments follow: the certificate is right where the last is the root's, and else the last is wrong.
   module _ (now : Inputs) (mid : World) (s : FollowSoFar (length w.judgments) now mid) (n : ℕ) (count : length w.judgments ≡ n + 1) where
@@ -193,6 +204,7 @@ module _ (T : Table) (w : Why) (old : Inputs) (before : World) where
       within = (s.within, tt);
       failed = λ q. absurd (cc);
       counts = inr s.faults;
+      late = s.late;
       looked = at_end;
       drawn = tt;
     }
@@ -206,6 +218,7 @@ module _ (T : Table) (w : Why) (old : Inputs) (before : World) where
       within = (tt, λ i k j l. s.within i k j (omega (arith, l, count)));
       failed = λ q. absurd (cc);
       counts = inr s.faults;
+      late = s.late;
       looked = at_end;
       drawn = subst (λ k. DrawsFor T (contexts T w) w.judgments k old now mid) count s.read.drawn;
     }

@@ -1,6 +1,6 @@
 -- What a walk reads of the inputs, and what its refusals say.
 use Rattle.lucid_cert.proofs.Common.{◌≡◌, ℕ, ◌<◌, length, refl, sym, ap, ◌∙◌, inl, inr, subst, Result, Ok, Err, IfErr, AllDiffer, Value, World, ReadsStream, streams, Inputs, Table, AreAskable, places_of, extends_then, read_more, streams_read, DemandFault, NoMemory, ReadFault, TooDeep, Position, Why, Made, HasRead, IsOwn, ReadsElement, ReadsFor, element_read, nothing_read}
-use Rattle.lucid_ports.specs.Faults.{CountsNoFaultUnless, Rises}
+use Rattle.lucid_ports.specs.Faults.{AsksNoneLate, CountsNoFaultUnless, Rises}
 use Rattle.lucid_equations.specs.MoreElements.{Extends}
 use Rattle.lucid_demand_steps.specs.Elements.{elements_read}
 use Rattle.lucid_demand_steps.specs.Engine.{ReadsOnly}
@@ -52,14 +52,22 @@ module _ (T : Table) (old now next : Inputs) (before mid after : World) (h : Has
   reads_on apart at limit result (nothing_read e f own) = reads_none e f
   reads_on apart at limit result (element_read k row some r) = reads_one apart k at.time r.there r.reads
 
+  -- nothing is asked after a fault
+  pub none_late : (at : Position) (limit : ℕ) (result : Result (Unit {0}) DemandFault) → ReadsFor T at limit now next mid after result
+      → mid.faults ≡ before.faults → AsksNoneLate before mid → AsksNoneLate before after
+  none_late at limit result (nothing_read e f own) faults late good = ap (λ (w : World). w.late) f ∙ late good
+  none_late at limit result (element_read k row some r) faults late good = r.late (faults ∙ good) ∙ late good
+
   -- what is refused for want of memory
-  pub want_of_memory : (time : ℕ) → next ≡ now → after ≡ mid → mid.faults ≡ before.faults → Made T old next before after time (Err NoMemory)
-  want_of_memory time e f faults =
+  pub want_of_memory : (time : ℕ) → next ≡ now → after ≡ mid → mid.faults ≡ before.faults → AsksNoneLate before mid
+      → Made T old next before after time (Err NoMemory)
+  want_of_memory time e f faults late =
       let r = reads_none e f in
       record {
         made = tt;
         failed = λ q. absurd (cc);
         counts = inr (ap (λ (w : World). w.faults) f ∙ faults);
+        late = λ good. ap (λ (w : World). w.late) f ∙ late good;
         elements = r.elements;
         askable = r.askable;
         places = r.places;
@@ -78,7 +86,7 @@ module _ (T : Table) (old now next : Inputs) (before mid after : World) (h : Has
       none (inr e) = e
 
   -- and else by the read fault alone.
-  module _ (at : Position) (limit : ℕ) (fault : DemandFault) (faults : mid.faults ≡ before.faults) where
+  module _ (at : Position) (limit : ℕ) (fault : DemandFault) (faults : mid.faults ≡ before.faults) (late : AsksNoneLate before mid) where
     its_failure : ReadsFor T at limit now next mid after (Err fault) → fault ≡ ReadFault → Rises before.faults after.faults
     its_failure (nothing_read e f own) q = absurd (subst IsOwn q own)
     its_failure (element_read k row some r) q = subst (λ x. Rises x after.faults) faults (r.failed (ap Err q))
@@ -101,6 +109,7 @@ module _ (T : Table) (old now next : Inputs) (before mid after : World) (h : Has
           made = tt;
           failed = λ q. its_failure r (let e : fault ≡ ReadFault = cc in e);
           counts = counted r;
+          late = none_late at limit (Err fault) r faults late;
           elements = h.elements;
           askable = h.askable;
           places = h.places;
@@ -118,6 +127,7 @@ read_for old new stream index before after v r (Ok x) own = record {
   too_large = tt;
   failed = λ q. absurd (cc);
   counts = inr (none r.counts);
+  late = r.late;
   deep = λ q. cc;
 }
   where
@@ -131,6 +141,7 @@ read_for old new stream index before after v r (Err e) own =
       too_large = tt;
       failed = λ q. absurd (cc);
       counts = inr (none r.counts);
+      late = r.late;
       deep = λ q. cc;
     })
   where
@@ -146,6 +157,7 @@ not_read_for old new stream index before after f r = record {
   too_large = r.too_large;
   failed = λ q. let e : f ≡ ReadFault = cc in r.failed (ap Err e);
   counts = counts r.counts;
+  late = r.late;
   deep = λ q. let e : f ≡ TooDeep = cc in r.deep (ap Err e);
 }
   where

@@ -1,9 +1,11 @@
 -- The walk: from the root's judgment on, until it is made.
 use Rattle.lucid_cert.proofs.Common.{◌≡◌, ℕ, ◌-◌, [], ◌∷◌, ◌++◌, length, refl, sym, ap, ◌∙◌, inr, subst, arith, Result, Ok, Err, IsErrAnd, Elements, World, streams, PlacesDiffer, Inputs, Table, AreAskable, extends_then, inputs_apart, DemandFault, NoMemory, Why, Position, MayBe, IsCertificate, Made, AreFollowing, Goes, IsMade, IsSound, Leaves, RootStands, Settles, judgments_of, table_in, HasRead, ReadsFor, ReadsNext, Maker, Making}
+use Rattle.lucid_ports.specs.Faults.{AsksNoneLate}
 use Rattle.lucid_cert.proofs.Going.{follow_of, root_first, root_stays}
-use Rattle.lucid_cert.proofs.Reading.{no_fault, nothing_yet, reads_on, refused, stay_read, want_of_memory}
+use Rattle.lucid_cert.proofs.Reading.{no_fault, none_late, nothing_yet, reads_on, refused, stay_read, want_of_memory}
 
--- A walk under way: what is made follows by all elements that there may be, the root stands, and no fault was counted.
+-- A walk under way: what is made follows by all elements that there may be, the root stands, no fault was counted, and nothing was
+-- asked after one.
 pub record Walks (T : Table) (old : Inputs) (before : World) (root : Position) (m : Maker) (now : Inputs) (mid : World) : Type 0 where
   pub table : table_in m ≡ T
   pub sound : IsSound m
@@ -11,6 +13,7 @@ pub record Walks (T : Table) (old : Inputs) (before : World) (root : Position) (
   pub follow : (b : Elements) → MayBe T now b → AreFollowing b m
   pub read : HasRead T old now before mid
   pub faults : mid.faults ≡ before.faults
+  pub late : AsksNoneLate before mid
 
 -- the refusal is that of the call
 pub refused_with : (r : Result Why DemandFault) (f : DemandFault) → IsErrAnd r (λ e. e ≡ f) → (P : Result Why DemandFault → Type 0) → P (Err f) → P r
@@ -33,13 +36,14 @@ walk_begins T old before root none m next after limit x differ table no_judgment
       follow = λ b may. follow b (subst (λ U. MayBe U next b) (sym table) may) (λ i l. absurd (omega (arith, l, ap length no_judgment)));
       read = reads_on T old old next before before after h (inputs_apart differ old) root limit (Ok x) r;
       faults = no_fault T old old next before before after h root limit x r refl;
+      late = none_late T old old next before before after h root limit (Ok x) r refl (λ good. refl);
     }
 
 pub begin_refused : (T : Table) (old : Inputs) (before : World) (root : Position) (none : Maker) (next : Inputs) (after : World) (limit time : ℕ)
     (fault : DemandFault) → PlacesDiffer → table_in none ≡ T
     → AreAskable (streams old) before → ReadsFor (table_in none) root limit old next before after (Err fault) → Made T old next before after time (Err fault)
 begin_refused T old before root none next after limit time fault differ table ask reads =
-    refused T old old next before before after (nothing_yet T old before ask) root limit fault refl (inputs_apart differ old) time
+    refused T old old next before before after (nothing_yet T old before ask) root limit fault refl (λ good. refl) (inputs_apart differ old) time
     (subst (λ U. ReadsFor U root limit old next before after (Err fault)) table reads)
 
 module _ (T : Table) (old : Inputs) (before : World) (root : Position) (m : Maker) (now : Inputs) (mid : World) (g : Walks T old before root m now mid)
@@ -71,13 +75,14 @@ module _ (T : Table) (old : Inputs) (before : World) (root : Position) (m : Make
           follow = λ b may. follow b (subst (λ U. MayBe U next b) (sym its_table) may) (its_follow b (extends_then _ _ b stay may));
           read = reads_on T old now next before mid after g.read (inputs_apart differ now) reads.at (w.limit - reads.references) (Ok x) r;
           faults = no_fault T old now next before mid after g.read reads.at (w.limit - reads.references) x r g.faults;
+          late = none_late T old now next before mid after g.read reads.at (w.limit - reads.references) (Ok x) r g.faults g.late;
         }
 
     -- or is refused.
     pub walk_refused : (time : ℕ) (fault : DemandFault) → ReadsNext (table_in p) w now next mid after (Err fault)
         → Made T old next before after time (Err fault)
     walk_refused time fault reads =
-        refused T old now next before mid after g.read reads.at (w.limit - reads.references) fault g.faults (inputs_apart differ now) time
+        refused T old now next before mid after g.read reads.at (w.limit - reads.references) fault g.faults g.late (inputs_apart differ now) time
         (reads_by (Err fault) reads)
 
   -- None waits: the root is made.
@@ -91,6 +96,7 @@ module _ (T : Table) (old : Inputs) (before : World) (root : Position) (m : Make
     made = λ b may. subst (λ t. IsCertificate T b w t) e (subst (λ U. IsCertificate U b w root.time) its_table (certificate b (its_follow b may)));
     failed = λ q. absurd (cc);
     counts = inr g.faults;
+    late = g.late;
     elements = g.read.elements;
     askable = g.read.askable;
     places = g.read.places;
@@ -101,4 +107,4 @@ module _ (T : Table) (old : Inputs) (before : World) (root : Position) (m : Make
 -- There is no memory.
 pub walk_breaks : (T : Table) (old : Inputs) (before : World) (root : Position) (m : Maker) (now : Inputs) (mid : World) (time : ℕ)
     → Walks T old before root m now mid → Made T old now before mid time (Err NoMemory)
-walk_breaks T old before root m now mid time g = want_of_memory T old now now before mid mid g.read time refl refl g.faults
+walk_breaks T old before root m now mid time g = want_of_memory T old now now before mid mid g.read time refl refl g.faults g.late

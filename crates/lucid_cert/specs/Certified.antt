@@ -2,7 +2,7 @@
 use Rattle.std.specs.Prelude.{◌≡◌, ℕ, ◌+◌, Some, Result, IfOk, IsErrOf, length, slice_get}
 use Rattle.lucid_tree.specs.Levels.{Elements}
 use Rattle.lucid_ports.specs.World.{World}
-use Rattle.lucid_ports.specs.Faults.{Rises}
+use Rattle.lucid_ports.specs.Faults.{Rises, AsksNoneLate}
 use Rattle.lucid_inputs.specs.declared.on_demand.Inputs.{Inputs}
 use Rattle.lucid_inputs.specs.Inputs.{streams, most_bytes}
 use Rattle.lucid_equations.specs.MoreElements.{Extends}
@@ -32,12 +32,13 @@ pub record IsCertificate (T : Table) (b : Elements) (w : Why) (time : ℕ) : Typ
   pub shown : MayBeShown w
 
 -- What is made, by all elements that there may be, and what making it does to the inputs, whatever the answer: elements that were read stay,
--- the inputs may be asked on, they have the places and the bound that they had, no place but theirs is touched, and faults are counted by the
--- read fault alone.
+-- the inputs may be asked on, they have the places and the bound that they had, no place but theirs is touched, faults are counted by the
+-- read fault alone, and nothing is asked after one.
 pub record Made (T : Table) (old new : Inputs) (before after : World) (time : ℕ) (result : Result Why DemandFault) : Type 0 where
   pub made : IfOk result (λ w. (b : Elements) → MayBe T new b → IsCertificate T b w time)
   pub failed : IsErrOf result ReadFault → Rises before.faults after.faults
   pub counts : CountsReadFaults result before after
+  pub late : AsksNoneLate before after
   pub elements : Extends (elements_read T.inputs (streams old)) (elements_read T.inputs (streams new))
   pub askable : AreAskable (streams new) after
   pub places : places_of (streams new) ≡ places_of (streams old)

@@ -4,7 +4,7 @@ use Rattle.lucid_value.specs.Plain.{PlainValue}
 use Rattle.lucid_value.specs.Lines.{end_of_line, IsOverlong}
 use Rattle.lucid_tags.specs.Contexts.{Context}
 use Rattle.lucid_ports.specs.World.{World}
-use Rattle.lucid_ports.specs.Faults.{Rises, CountsNoFaultUnless}
+use Rattle.lucid_ports.specs.Faults.{Rises, AsksNoneLate, CountsNoFaultUnless}
 use Rattle.lucid_inputs.specs.declared.on_demand.Inputs.{Inputs}
 use Rattle.lucid_inputs.specs.Inputs.{ReadsStream, streams, stream_at, most_bytes}
 use Rattle.lucid_inputs.specs.Reading.{GivesElement}
@@ -43,6 +43,7 @@ pub record ReadsElement (old new : Inputs) (stream index : ℕ) (before after : 
   pub right : IfErr result (λ e. OnWrong e (λ i. ⊥))
   pub failed : IsErrOf result ReadFault → Rises before.faults after.faults
   pub counts : CountsNoFaultUnless (IsErrOf result ReadFault) before.faults after.faults
+  pub late : AsksNoneLate before after
 
 -- It is told whether the element is this value.
 abbrev pub TellsSame : (new : Inputs) (stream index : ℕ) → PlainValue → Result Bool CheckFault → Type 0

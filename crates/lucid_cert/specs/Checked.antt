@@ -4,7 +4,7 @@ use Rattle.lucid_tree.specs.Levels.{Elements}
 use Rattle.lucid_equations.specs.MoreElements.{Extends}
 use Rattle.lucid_equations.specs.declared.table.Table.{Table}
 use Rattle.lucid_ports.specs.World.{World}
-use Rattle.lucid_ports.specs.Faults.{Rises, CountsNoFaultUnless}
+use Rattle.lucid_ports.specs.Faults.{Rises, AsksNoneLate, CountsNoFaultUnless}
 use Rattle.lucid_inputs.specs.declared.on_demand.Inputs.{Inputs}
 use Rattle.lucid_inputs.specs.Inputs.{streams, stream_at, most_bytes}
 use Rattle.lucid_demand_steps.specs.Elements.{elements_read}
@@ -58,6 +58,7 @@ pub record Checked (T : Table) (w : Why) (old new : Inputs) (before after : Worl
   pub within : IfOk result (λ _. NoneTellsPast T w old before (length w.judgments)) × IfErr result (λ e. OnWrong e (λ i. NoneTellsPast T w old before (i + 1)))
   pub failed : IsErrOf result ReadFault → Rises before.faults after.faults
   pub counts : CountsNoFaultUnless (IsErrOf result ReadFault) before.faults after.faults
+  pub late : AsksNoneLate before after
   pub looked : HasLooked T w old new before after
   -- through the wrong judgment, where there is one, and none behind it
   pub drawn : IfErr result (λ e. OnWrong e (λ i. DrawsFor T (contexts T w) w.judgments (i + 1) old new after))

@@ -1,7 +1,7 @@
 -- What is read of the inputs for a judgment, and what a walk has read.
 use Rattle.std.specs.Prelude.{◌≡◌, ℕ, ◌-◌, ◌<◌, Some, Result, IfErr, IsErrOf, length}
 use Rattle.lucid_ports.specs.World.{World}
-use Rattle.lucid_ports.specs.Faults.{Rises, CountsNoFaultUnless}
+use Rattle.lucid_ports.specs.Faults.{Rises, AsksNoneLate, CountsNoFaultUnless}
 use Rattle.lucid_inputs.specs.declared.on_demand.Inputs.{Inputs}
 use Rattle.lucid_inputs.specs.Inputs.{ReadsStream, streams, stream_at, most_bytes}
 use Rattle.lucid_equations.specs.MoreElements.{Extends}
@@ -25,6 +25,7 @@ pub record ReadsElement (A : Type 0) (old new : Inputs) (stream index : ℕ) (be
   pub too_large : IfErr result (λ e. OnTooLarge e (λ k. (k ≡ stream) × LiesPast old before stream index × ((stream_at new stream).consumed ≡ most_bytes old)))
   pub failed : IsErrOf result ReadFault → Rises before.faults after.faults
   pub counts : CountsNoFaultUnless (IsErrOf result ReadFault) before.faults after.faults
+  pub late : AsksNoneLate before after
   pub deep : IsErrOf result TooDeep → ⊥
 
 -- a refusal that isn't one of the inputs

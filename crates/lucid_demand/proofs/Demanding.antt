@@ -26,6 +26,7 @@ demanded old new before after t s m result sound ask within l = record {
   too_large = l.too_large;
   failed = l.failed;
   counts = l.counts;
+  late = l.late;
   within = within;
   visited = λ b may. (engine_visits old new before after t s m l.owns b may).0;
   few_held = l.owns.since.few;

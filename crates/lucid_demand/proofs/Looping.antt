@@ -1,6 +1,7 @@
 -- What a demand's loop leaves, by its last turn.
 use Rattle.lucid_demand.proofs.Common.{ℕ, suc, Option, None, inl, inr, refl, sym, subst, ◌∙◌, arith, ⊤, Value, World, EngineView, Demand, demand_of, Evaluating, Stepped, cost, CountsReadFaults, LoopEnds, MayTurn, Begins, DemandFault, TooDeep, ReadFault}
 use Rattle.std.proofs.Common.{◌≡◌, ◌<◌, ◌≤◌, Some, Result, Ok, Err}
+use Rattle.lucid_ports.specs.Faults.{AsksNoneLate}
 use Rattle.lucid_demand_steps.proofs.History.{rises_later}
 use Rattle.lucid_demand.proofs.AskedParts.{not_too_large, not_failed}
 
@@ -34,14 +35,15 @@ module _ (first : EngineView) (before : World) (t s m : ℕ) where
     too_large = not_too_large f _ b.refused;
     failed = λ e. absurd (not_failed f b.refused (let same : f ≡ ReadFault = cc in same));
     counts = inr refl;
+    late = λ good. refl;
   }
 
   -- There is an answer.
-  pub ends_with : (mid : Evaluating) (w : World) (o : Option Value) (x : Value) → o ≡ Some x → w.faults ≡ before.faults → Begins d mid w (Ok o)
-      → LoopEnds first mid.engine before w t s m (Ok x)
-  ends_with mid w None x has same b = absurd (cc)
-  ends_with mid w (Some y) x has same b = subst (λ z. LoopEnds first mid.engine before w t s m (Ok z)) (let one : y ≡ x = cc in one)
-      (record { owns = b.owns; answers = b.answers; deep = λ e. absurd (cc); too_large = tt; failed = λ e. absurd (cc); counts = inr same })
+  pub ends_with : (mid : Evaluating) (w : World) (o : Option Value) (x : Value) → o ≡ Some x → w.faults ≡ before.faults → AsksNoneLate before w
+      → Begins d mid w (Ok o) → LoopEnds first mid.engine before w t s m (Ok x)
+  ends_with mid w None x has same late b = absurd (cc)
+  ends_with mid w (Some y) x has same late b = subst (λ z. LoopEnds first mid.engine before w t s m (Ok z)) (let one : y ≡ x = cc in one)
+      (record { owns = b.owns; answers = b.answers; deep = λ e. absurd (cc); too_large = tt; failed = λ e. absurd (cc); counts = inr same; late = late })
 
   -- A turn may be taken.
   pub may_turn : (mid : Evaluating) (w : World) (o : Option Value) → o ≡ None → Begins d mid w (Ok o) → MayTurn d mid w
@@ -50,14 +52,15 @@ module _ (first : EngineView) (before : World) (t s m : ℕ) where
 
   -- It refused.
   pub ends_refused : (mid new : Evaluating) (v w : World) (e : DemandFault) → MayTurn d mid v → v.faults ≡ before.faults → v.faults ≤ w.faults
-      → CountsReadFaults {T = ⊤} (Err e) v w → Stepped d mid new v w (Err e) → LoopEnds first new.engine before w t s m (Err e)
-  ends_refused mid new v w e may same more counts s = record {
+      → CountsReadFaults {T = ⊤} (Err e) v w → AsksNoneLate before w → Stepped d mid new v w (Err e) → LoopEnds first new.engine before w t s m (Err e)
+  ends_refused mid new v w e may same more counts late s = record {
     owns = s.owns;
     answers = tt;
     deep = λ f. s.deep (again e TooDeep f);
     too_large = s.too_large;
     failed = λ f. rises_later before v w may.waits.going.owns.since.reads_only.faults more (s.failed (again e ReadFault f));
     counts = elim counts [ inl f ↦ inl (at_value e ReadFault f) | inr f ↦ inr (f ∙ same) ];
+    late = late;
   }
 
   -- It went on, or gave the answer: less is left.

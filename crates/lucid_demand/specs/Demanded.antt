@@ -4,7 +4,7 @@ use Rattle.lucid_value.specs.declared.Value.{Value}
 use Rattle.lucid_value.specs.View.{plain}
 use Rattle.lucid_tree.specs.Levels.{Elements}
 use Rattle.lucid_ports.specs.World.{World}
-use Rattle.lucid_ports.specs.Faults.{Rises}
+use Rattle.lucid_ports.specs.Faults.{AsksNoneLate, Rises}
 use Rattle.lucid_demand_steps.specs.Elements.{elements_told}
 use Rattle.lucid_demand_steps.specs.Engine.{EngineView, IsSound, MayHave, RootMeans, root_val, root_hval, holding, DrawsWithin, ReadsWithin, ConsultsOverlong, VisitsNew, HoldsFew, StillHolds, HoldsNeeded, AreAskable, GoesOn, ReadsOnly, places_of}
 use Rattle.lucid_demand_steps.specs.Faults.{OnTooLarge, CountsReadFaults}
@@ -33,11 +33,12 @@ pub record Demanded (old new : EngineView) (before after : World) (time space li
   pub kept : IsTrue old.keeps → IsErrOf result TooDeep → (b : Elements) → MayHave new b → root_hval new b (holding old) limit time space ≡ None
   -- No stream is consumed past what it was, or past the last element that the limit's approximation consults. Too large comes only where
   -- that consults an element past the bytes that may be read. A read fault comes only where a call on the places failed, and after any other
-  -- answer their count of faults is as it was.
+  -- answer their count of faults is as it was. Nothing is asked of them after a fault.
   pub drawn : (b : Elements) → MayHave new b → DrawsWithin old new b after limit time space
   pub too_large : IfErr result (λ e. OnTooLarge e (λ k. (b : Elements) → MayHave new b → ConsultsOverlong new b after k limit time space))
   pub failed : IsErrOf result ReadFault → Rises before.faults after.faults
   pub counts : CountsReadFaults result before after
+  pub late : AsksNoneLate before after
   -- Whatever the places tell, of no stream more is consumed than may be read.
   pub within : ReadsWithin new
   -- What is newly held and newly known is visited; at most one more is held than the policy leaves.

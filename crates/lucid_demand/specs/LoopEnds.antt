@@ -4,7 +4,7 @@ use Rattle.lucid_value.specs.declared.Value.{Value}
 use Rattle.lucid_value.specs.View.{plain}
 use Rattle.lucid_tree.specs.Levels.{Elements}
 use Rattle.lucid_ports.specs.World.{World}
-use Rattle.lucid_ports.specs.Faults.{Rises}
+use Rattle.lucid_ports.specs.Faults.{AsksNoneLate, Rises}
 use Rattle.lucid_demand_steps.specs.Stands.{IsDefined}
 use Rattle.lucid_demand_steps.specs.Engine.{EngineView, MayHave, holding, ConsultsOverlong}
 use Rattle.lucid_demand_steps.specs.Demands.{demand_of, stays, Answers}
@@ -22,3 +22,4 @@ pub record LoopEnds (old new : EngineView) (before after : World) (time space li
   pub too_large : IfErr result (λ e. OnTooLarge e (λ k. (b : Elements) → MayHave new b → ConsultsOverlong new b after k limit time space))
   pub failed : IsErrOf result ReadFault → Rises before.faults after.faults
   pub counts : CountsReadFaults result before after
+  pub late : AsksNoneLate before after

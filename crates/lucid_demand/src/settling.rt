@@ -4,6 +4,7 @@ ghost use Rattle.lucid_value.specs.Plain.{truth, eod, fault};
 ghost use Rattle.lucid_value.specs.View.{plain};
 ghost use Rattle.lucid_ops.specs.Arity.{arity};
 ghost use Rattle.lucid_tasks.specs.Rows.{row_at, parent_of, key_of, got_of, taken, returned, is_ready, ChangesOnly, IsRow, Settles};
+ghost use Rattle.lucid_ports.specs.Faults.{AsksNoneLate};
 ghost use Rattle.lucid_demand_steps.specs.Demands.{Demand};
 ghost use Rattle.lucid_demand_steps.specs.Engine.{AreAskable};
 ghost use Rattle.lucid_demand_steps.specs.declared.decision.Decision.TheVariants as decision;
@@ -170,6 +171,7 @@ impl<R: Retire, S: Pick> Evaluation<R, S> {
         requires askable { AreAskable self.old.engine.streams (P.world places.old) }
         ensures reads { ReadsElement self.old.engine self.new.engine stream time (P.world places.old) (P.world places.new) result }
         ensures rows { self.new.rows ≡ self.old.rows }
+        ensures late { AsksNoneLate (P.world places.old) (P.world places.new) }
     {
         Ok(self.inputs.element(places, stream, time)?.copy(self.alloc)?)
     }
@@ -330,6 +332,7 @@ impl<R: Retire, S: Pick> Evaluation<R, S> {
         ensures steps { (d : Demand) → MayAct d self.old (P.world places.old) slot (decision.Read stream) → Stepped d self.old self.new (P.world places.old) (P.world places.new) (gave result answer.new) }
         ensures faults { (P.world places.old).faults ≤ (P.world places.new).faults }
         ensures counts { CountsReadFaults result (P.world places.old) (P.world places.new) }
+        ensures late { AsksNoneLate (P.world places.old) (P.world places.new) }
     {
         let time = self.tasks.task(slot).time;
         let value = self.element(places, stream, time)?;

@@ -4,6 +4,7 @@ ghost use Rattle.lucid_tags.specs.Contexts.{Context, root as empty_context};
 ghost use Rattle.lucid_tags.specs.Known.{IsOneForOne};
 ghost use Rattle.lucid_tasks.specs.Rows.{TaskRow, row_at, is_ready, IsRow};
 ghost use Rattle.lucid_store.specs.Entries.{cleared};
+ghost use Rattle.lucid_ports.specs.Faults.{AsksNoneLate};
 ghost use Rattle.lucid_ports.specs.World.{World};
 ghost use Rattle.lucid_demand_steps.specs.Tasks.{plain_row};
 ghost use Rattle.lucid_demand_steps.specs.Engine.{IsSound, AreAskable};
@@ -133,6 +134,7 @@ impl<R: Retire, S: Pick> Evaluation<R, S> {
         ensures steps { (d : Demand) → MayTurn d self.old (P.world places.old) → Stepped d self.old self.new (P.world places.old) (P.world places.new) (gave result answer.new) }
         ensures faults { (P.world places.old).faults ≤ (P.world places.new).faults }
         ensures counts { CountsReadFaults result (P.world places.old) (P.world places.new) }
+        ensures late { AsksNoneLate (P.world places.old) (P.world places.new) }
     {
         self.drop_values();
         let slot = self.pick_ready();
@@ -152,6 +154,7 @@ impl<R: Retire, S: Pick> Evaluation<R, S> {
         ensures steps { (d : Demand) → MayStep d self.old (P.world places.old) slot → Stepped d self.old self.new (P.world places.old) (P.world places.new) (gave result answer.new) }
         ensures faults { (P.world places.old).faults ≤ (P.world places.new).faults }
         ensures counts { CountsReadFaults result (P.world places.old) (P.world places.new) }
+        ensures late { AsksNoneLate (P.world places.old) (P.world places.new) }
     {
         self.begin_search(slot);
         let decision = self.decided(slot);
@@ -182,6 +185,7 @@ impl<R: Retire, S: Pick> Evaluation<R, S> {
         ensures steps { (d : Demand) → MayAct d self.old (P.world places.old) slot decision → Stepped d self.old self.new (P.world places.old) (P.world places.new) (gave result answer.new) }
         ensures faults { (P.world places.old).faults ≤ (P.world places.new).faults }
         ensures counts { CountsReadFaults result (P.world places.old) (P.world places.new) }
+        ensures late { AsksNoneLate (P.world places.old) (P.world places.new) }
     {
         match decision {
             Decision::Constant { constant } => self.settle_constant(slot, constant, answer),

@@ -8,13 +8,14 @@ use Rattle.lucid_explain_command.specs.Files.{Files}
 use Rattle.lucid_explain_command.specs.Explained.{in_memory, Reports}
 
 -- the report is empty before the call
-pub begun_empty : (c : Call) (bytes : List ℕ) (faults : ℕ) (after : Told) (s : Status) → bytes ≡ [] → faults ≡ 0
-    → MeetsClauses c (in_memory bytes faults) after s
-    → MeetsClauses c (in_memory [] 0) after s
-begun_empty c bytes faults after s e f clauses =
-    let P : List ℕ → Type 0 = λ z. MeetsClauses c (in_memory z faults) after s in
-    let Q : ℕ → Type 0 = λ n. MeetsClauses c (in_memory [] n) after s in
-    subst Q f (subst P e clauses)
+pub begun_empty : (c : Call) (bytes : List ℕ) (faults late : ℕ) (after : Told) (s : Status) → bytes ≡ [] → faults ≡ 0 → late ≡ 0
+    → MeetsClauses c (in_memory bytes faults late) after s
+    → MeetsClauses c (in_memory [] 0 0) after s
+begun_empty c bytes faults late after s e f l clauses =
+    let P : List ℕ → Type 0 = λ z. MeetsClauses c (in_memory z faults late) after s in
+    let Q : ℕ → Type 0 = λ n. MeetsClauses c (in_memory [] n late) after s in
+    let R : ℕ → Type 0 = λ n. MeetsClauses c (in_memory [] 0 n) after s in
+    subst R l (subst Q f (subst P e clauses))
 
 -- a line that is another one is reported as that
 pub reported_as : (files : Files) (words : List Text) (line other : List ℕ) (before after : Told) → line ≡ other → Reports files words line before after

@@ -12,8 +12,8 @@ use Rattle.lucid_explain_command.specs.Said.{IsExplanation}
 use Rattle.lucid_explain_command.specs.Prompted.{IsPrompt}
 
 -- a report in memory of which these bytes are written
-abbrev pub in_memory : (bytes : List ℕ) → (faults : ℕ) → Told
-in_memory bytes faults = record { bytes = Some bytes; faults = faults }
+abbrev pub in_memory : (bytes : List ℕ) → (faults late : ℕ) → Told
+in_memory bytes faults late = record { bytes = Some bytes; faults = faults; late = late }
 
 -- what is said where there is no memory for what would be said
 abbrev pub unsaid_text : List ℕ
@@ -43,7 +43,8 @@ pub data Reports (files : Files) (words : List Text) (line : List ℕ) (before a
 pub record IsExplained (files : Files) (terminal : Bool) (words : List Text) (c : Call) (report_before report_after : Told) (s : Status) : Type 0 where
   pub line : List ℕ
   pub faults : ℕ
+  pub late : ℕ
   pub between : Told
-  pub clauses : MeetsClauses c (in_memory [] 0) (in_memory line faults) s
+  pub clauses : MeetsClauses c (in_memory [] 0 0) (in_memory line faults late) s
   pub prompts : Prompts files words terminal report_before between
   pub reports : Reports files words line between report_after

@@ -19,21 +19,21 @@ use std::alloc::{AllocError, Global};
 
 // Writes a line whole.
 fn write_line<E: Sink>(report: &mut E, line: &[u8]) -> Result<(), PortFault>
-    ensures { WritesLine line.now result (told E.written E.faults report.old) (told E.written E.faults report.new) }
+    ensures { WritesLine line.now result (told E.written E.faults E.late report.old) (told E.written E.faults E.late report.new) }
 {
     write_whole(report, line)
 }
 
 // Says that there was no memory for what would be said.
 fn report_unsaid<E: Sink>(report: &mut E) -> Result<(), PortFault>
-    ensures { WritesLine unsaid_text result (told E.written E.faults report.old) (told E.written E.faults report.new) }
+    ensures { WritesLine unsaid_text result (told E.written E.faults E.late report.old) (told E.written E.faults E.late report.new) }
 {
     write_line(report, b"There is not memory enough to explain this.\n")
 }
 
 // Reports what is said before the call, or that there was no memory for it.
 fn report_prompt<E: Sink, F: Outlook>(alloc: Global, words: &[String], outlook: &F, report: &mut E)
-    ensures { WritesText (IsPrompt (F.files outlook.now) (map string_bytes words.now)) (told E.written E.faults report.old) (told E.written E.faults report.new) }
+    ensures { WritesText (IsPrompt (F.files outlook.now) (map string_bytes words.now)) (told E.written E.faults E.late report.old) (told E.written E.faults E.late report.new) }
 {
     match text_of_prompt(alloc, words, outlook) {
         Ok(text) => {
@@ -52,7 +52,7 @@ fn prompt_terminal<E: Sink, F: Outlook>(
     outlook: &F,
     report: &mut E,
 )
-    ensures { Prompts (F.files outlook.now) (map string_bytes words.now) (F.terminal outlook.now) (told E.written E.faults report.old) (told E.written E.faults report.new) }
+    ensures { Prompts (F.files outlook.now) (map string_bytes words.now) (F.terminal outlook.now) (told E.written E.faults E.late report.old) (told E.written E.faults E.late report.new) }
 {
     if outlook.is_terminal() {
         report_prompt(alloc, words, outlook, report);
@@ -67,7 +67,7 @@ fn report_cause<E: Sink, F: Outlook>(
     outlook: &F,
     report: &mut E,
 )
-    ensures { WritesText (IsExplanation (F.files outlook.now) (map string_bytes words.now) line.now) (told E.written E.faults report.old) (told E.written E.faults report.new) }
+    ensures { WritesText (IsExplanation (F.files outlook.now) (map string_bytes words.now) line.now) (told E.written E.faults E.late report.old) (told E.written E.faults E.late report.new) }
 {
     match explain(alloc, words, line, outlook) {
         Ok(text) => {
@@ -87,7 +87,7 @@ fn report_call<E: Sink, F: Outlook>(
     outlook: &F,
     report: &mut E,
 )
-    ensures { Reports (F.files outlook.now) (map string_bytes words.now) line.now (told E.written E.faults report.old) (told E.written E.faults report.new) }
+    ensures { Reports (F.files outlook.now) (map string_bytes words.now) line.now (told E.written E.faults E.late report.old) (told E.written E.faults E.late report.new) }
 {
     match write_line(report, line) {
         Ok(()) => report_cause(alloc, words, line, outlook, report),
@@ -107,8 +107,8 @@ pub fn lucid_explain<P: Places, K: Sink, E: Sink, F: Outlook>(
 ) -> Status
     requires { (P.world places.old).reached ≡ 0 }
     ensures { IsExplained (F.files outlook.now) (F.terminal outlook.now) (map string_bytes words.now)
-        (call (words_asked (map string_bytes words.now)) (P.world places.old) (P.world places.new) (told K.written K.faults out.old) (told K.written K.faults out.new))
-        (told E.written E.faults report.old) (told E.written E.faults report.new) result }
+        (call (words_asked (map string_bytes words.now)) (P.world places.old) (P.world places.new) (told K.written K.faults K.late out.old) (told K.written K.faults K.late out.new))
+        (told E.written E.faults E.late report.old) (told E.written E.faults E.late report.new) result }
 {
     let mut line = MemorySink::make(alloc, usize::MAX, Vec::new(alloc));
     prompt_terminal(alloc, words, outlook, report);
@@ -138,8 +138,8 @@ pub fn lucid_explain_from_arguments<P: Places, K: Sink, E: Sink, F: Outlook>(
 ) -> Status
     requires { (P.world places.old).reached ≡ 0 }
     ensures { IsExplained (F.files outlook.now) (F.terminal outlook.now) (map string_bytes (drop 1 arguments.now))
-        (call (words_asked (map string_bytes (drop 1 arguments.now))) (P.world places.old) (P.world places.new) (told K.written K.faults out.old) (told K.written K.faults out.new))
-        (told E.written E.faults report.old) (told E.written E.faults report.new) result }
+        (call (words_asked (map string_bytes (drop 1 arguments.now))) (P.world places.old) (P.world places.new) (told K.written K.faults K.late out.old) (told K.written K.faults K.late out.new))
+        (told E.written E.faults E.late report.old) (told E.written E.faults E.late report.new) result }
 {
     lucid_explain(alloc, words_of(arguments), places, outlook, out, report)
 }

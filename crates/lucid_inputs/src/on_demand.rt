@@ -31,7 +31,7 @@ impl Inputs {
     ghost use Rattle.std.specs.Borrow.{sem};
     ghost use Rattle.lucid_value.specs.Elements.{element};
     ghost use Rattle.lucid_value.specs.Lines.{IsOverlong};
-    ghost use Rattle.lucid_ports.specs.Faults.{CountsNoFaultUnless, Rises};
+    ghost use Rattle.lucid_ports.specs.Faults.{AsksNoneLate, CountsNoFaultUnless, Rises};
     ghost use Rattle.lucid_inputs.specs.Inputs.{EndsAnswered, ReadsStream, HasReady, most_bytes, stream_at, streams};
     ghost use Rattle.lucid_value.specs.View.{plain};
 
@@ -70,6 +70,7 @@ impl Inputs {
         ensures ready { OnOk result (HasReady self.new stream index) }
         ensures failed { IsErrOf result InputFault.ReadFault → Rises (P.world places.old).faults (P.world places.new).faults }
         ensures counts_no_fault { CountsNoFaultUnless (IsErrOf result InputFault.ReadFault) (P.world places.old).faults (P.world places.new).faults }
+        ensures late { AsksNoneLate (P.world places.old) (P.world places.new) }
         ensures too_large { IfErr result (λ e. OnTooLarge e (λ s. IsTooLarge stream index (most_bytes self.old) (stream_at self.new stream) s
             ((P.world places.old).place (stream_at self.old stream).place).contents)) }
         ensures not_too_large { OnOk result (IfSome ((P.world places.old).place (stream_at self.old stream).place).contents
@@ -129,6 +130,7 @@ impl Inputs {
 
         ensures failed { IsErrOf result InputFault.ReadFault → Rises (P.world places.old).faults (P.world places.new).faults }
         ensures counts_no_fault { CountsNoFaultUnless (IsErrOf result InputFault.ReadFault) (P.world places.old).faults (P.world places.new).faults }
+        ensures late { AsksNoneLate (P.world places.old) (P.world places.new) }
     {
         self.read_on(places, stream, index)?;
         Ok(self.value(stream, index))

@@ -1,7 +1,7 @@
 // One stream, read by pieces.
 ghost use Rattle.std.specs.Prelude.{◌≡◌, ◌+◌, ◌<◌, ◌≤◌, ◌^◌, false, length, take, IfOk, IfSome, OnOk, OnErr, IfErr, IsErrOf, vec_len};
 ghost use Rattle.lucid_value.specs.Lines.{IsOverlong};
-ghost use Rattle.lucid_ports.specs.Faults.{CountsNoFaultUnless, Rises};
+ghost use Rattle.lucid_ports.specs.Faults.{AsksNoneLate, CountsNoFaultUnless, Rises};
 ghost use Rattle.lucid_ports.specs.World.{KeepsOthers};
 ghost use Rattle.lucid_inputs.specs.Faults.{OnTooLarge};
 ghost use Rattle.lucid_inputs.specs.Streams.{FitsPlace, all_bytes, fresh_stream, line_ends};
@@ -104,6 +104,7 @@ impl InputStream {
         ensures others { KeepsOthers self.old.place (P.world places.old) (P.world places.new) }
         ensures failed { IsErrOf result PortFault.Failed → Rises (P.world places.old).faults (P.world places.new).faults }
         ensures counts_no_fault { CountsNoFaultUnless (IsErrOf result PortFault.Failed) (P.world places.old).faults (P.world places.new).faults }
+        ensures late { AsksNoneLate (P.world places.old) (P.world places.new) }
     {
         let place = self.place;
         let piece = places.fill(place)?;
@@ -134,6 +135,7 @@ impl InputStream {
         ensures stops { OnOk result (vec_len self.new.elements ≤ index → self.new.ended ≡ false → self.new.consumed ≡ most) }
         ensures failed { IsErrOf result PortFault.Failed → Rises (P.world places.old).faults (P.world places.new).faults }
         ensures counts_no_fault { CountsNoFaultUnless (IsErrOf result PortFault.Failed) (P.world places.old).faults (P.world places.new).faults }
+        ensures late { AsksNoneLate (P.world places.old) (P.world places.new) }
     {
         'pieces: while !self.ended && self.consumed < most && self.elements.len() as u64 <= index {
             self.read_piece(alloc, places, most)?;
@@ -176,6 +178,7 @@ impl InputStream {
         ensures ready { OnOk result (IsReady self.new index) }
         ensures failed { IsErrOf result InputFault.ReadFault → Rises (P.world places.old).faults (P.world places.new).faults }
         ensures counts_no_fault { CountsNoFaultUnless (IsErrOf result InputFault.ReadFault) (P.world places.old).faults (P.world places.new).faults }
+        ensures late { AsksNoneLate (P.world places.old) (P.world places.new) }
         ensures too_large { IfErr result (λ e. OnTooLarge e (λ s. IsTooLarge stream index most (stream_of self.new) s ((P.world places.old).place self.old.place).contents)) }
         ensures not_too_large { OnOk result (IfSome ((P.world places.old).place self.old.place).contents (λ c. IsOverlong (all_bytes c) index most → ⊥)) }
     {

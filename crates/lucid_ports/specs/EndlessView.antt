@@ -40,6 +40,7 @@ endless_world e = record {
   reached = vec_len e.places;
   place = λ k. endless_place (slice_get e.places.items k);
   faults = 0;
+  late = 0;
 }
 
 -- the same files and the same piece

@@ -23,7 +23,7 @@ abbrev pub memory_place : List MemoryFile → Option MemoryPlace → Place
 memory_place files None = record { contents = None; shown = 0; used = 0 }
 memory_place files (Some p) = record { contents = Some (read_to p.mark.position (bytes_at files p.file)); shown = p.mark.shown; used = p.mark.used }
 
--- the files' names, those that were asked for, the places reached and the count of faults
+-- the files' names, those that were asked for, the places reached and the counts
 abbrev pub memory_world : MemoryPlaces → World
 memory_world m = record {
   holds = bytes_named m.files.items;
@@ -31,6 +31,7 @@ memory_world m = record {
   reached = vec_len m.places;
   place = λ k. memory_place m.files.items (slice_get m.places.items k);
   faults = m.faults;
+  late = m.late;
 }
 
 -- the failures to come

@@ -3,10 +3,10 @@ use Rattle.std.specs.Prelude.{◌≡◌, ℕ, List, length, Result, IfOk, OnErr,
 use denote.Ref.{Bor}
 use Rattle.lucid_ports.specs.declared.fault.PortFault.{PortFault}
 use Rattle.lucid_ports.specs.declared.fault.PortFault.TheVariants.{Failed}
-use Rattle.lucid_ports.specs.Faults.{Rises, CountsNoFaultUnless}
+use Rattle.lucid_ports.specs.Faults.{Rises, CountsLate, CountsNoFaultUnless}
 use Rattle.lucid_ports.specs.World.{World, IsShown, KeepsOthers}
 
--- What stands once the piece is given back: the place shows it, and a refusal changes nothing but the count of faults.
+-- What stands once the piece is given back: the place shows it, and a refusal changes nothing but the counts.
 pub record Fills (old : World) (number : ℕ) (result : Result (Bor (List ℕ)) PortFault) (new : World) : Type 0 where
   pub others : KeepsOthers number old new
   pub reached : new.reached ≡ old.reached
@@ -14,3 +14,4 @@ pub record Fills (old : World) (number : ℕ) (result : Result (Bor (List ℕ)) 
   pub refused : OnErr result (new.place number ≡ old.place number)
   pub failed : IsErrOf result Failed → Rises old.faults new.faults
   pub counts_no_fault : CountsNoFaultUnless (IsErrOf result Failed) old.faults new.faults
+  pub counts_late : CountsLate old.faults old.late new.late

@@ -27,6 +27,7 @@ real_world holds of_file of_input r = record {
   reached = vec_len r.places;
   place = λ k. real_place of_file of_input (slice_get r.places.items k);
   faults = r.faults;
+  late = r.late;
 }
 
 -- what opens files and standard input
@@ -41,9 +42,12 @@ real_names r = map string_bytes r.names.items
 abbrev pub real_reached : {O F I : Type 0} {g : _} {h : _} {k : _} → RealPlaces O F I g h k → ℕ
 real_reached r = vec_len r.places
 
--- the count of faults
+-- the count of faults, and that of late calls
 abbrev pub real_faults : {O F I : Type 0} {g : _} {h : _} {k : _} → RealPlaces O F I g h k → ℕ
 real_faults r = r.faults
+
+abbrev pub real_late : {O F I : Type 0} {g : _} {h : _} {k : _} → RealPlaces O F I g h k → ℕ
+real_late r = r.late
 
 -- the place of that number, if it is reached, and what it reads from
 abbrev pub place_at : {O F I : Type 0} {g : _} {h : _} {k : _} → RealPlaces O F I g h k → ℕ → Option (RealPlace F I g h k)

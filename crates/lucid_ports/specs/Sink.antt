@@ -21,9 +21,12 @@ sink_failures s = s.failures.items
 abbrev pub sink_next : MemorySink → Option ℕ
 sink_next s = s.next
 
--- how often a write has failed
+-- how often a write has failed, and how many came late, once one had
 abbrev pub sink_faults : MemorySink → ℕ
 sink_faults s = s.faults
+
+abbrev pub sink_late : MemorySink → ℕ
+sink_late s = s.late
 
 -- the number after a number, below 2^64
 abbrev pub number_after : Option ℕ → Option ℕ

@@ -14,13 +14,14 @@ pub record Place : Type 0 where
   pub used : ℕ
 
 -- All that is read from: the bytes that each name holds, where that is told; the names that were asked for, in order; how many places are
--- reached; the place of each number below that; and how often a call has failed.
+-- reached; the place of each number below that; how often a call has failed; and how many calls came late, once one had failed.
 pub record World : Type 0 where
   pub holds : List ℕ → Option (List ℕ)
   pub asked : List (List ℕ)
   pub reached : ℕ
   pub place : ℕ → Place
   pub faults : ℕ
+  pub late : ℕ
 
 -- the bytes of a place just reached, of which all are left
 abbrev pub unread : List ℕ → Contents

@@ -7,6 +7,7 @@ ghost use Rattle.lucid_ports.specs.Memory.{fail_at, Spends};
 ghost use Rattle.lucid_ports.specs.MemoryView.{ConsumesMemory, ReachesMemory, ShowsMemory, memory_failures, memory_world};
 
 use crate::files::{MemoryFile, find_file, position_in, rest_of};
+use crate::late::late_after;
 use crate::mark::Mark;
 use crate::{Places, PortFault};
 use std::alloc::Global;
@@ -52,6 +53,7 @@ pub struct MemoryPlaces {
     names: Vec<String>,
     places: Vec<MemoryPlace>,
     faults: u64,
+    late: u64,
 }
 
 #[derive(Clone, Copy)]
@@ -67,6 +69,7 @@ impl MemoryPlaces {
         ensures unasked { (memory_world result).asked ≡ [] }
         ensures none { (memory_world result).reached ≡ 0 }
         ensures faults { (memory_world result).faults ≡ 0 }
+        ensures late { (memory_world result).late ≡ 0 }
         ensures failures { memory_failures result ≡ failures.items }
     {
         MemoryPlaces {
@@ -75,6 +78,7 @@ impl MemoryPlaces {
             names: Vec::new(alloc),
             places: Vec::new(alloc),
             faults: 0,
+            late: 0,
         }
     }
 
@@ -105,6 +109,7 @@ impl Places for MemoryPlaces {
     ghost consume_gives = { ConsumesMemory };
 
     fn reach(&mut self, alloc: Global, name: &str) -> Result<u32, PortFault> {
+        self.late = late_after(self.faults, self.late);
         self.names.push(String::from_str(alloc, name)?)?;
         let Some(file) = find_file(&self.files, name) else {
             self.faults = self.faults.saturating_add(1);
@@ -119,6 +124,7 @@ impl Places for MemoryPlaces {
     }
 
     fn fill(&mut self, place: u32) -> Result<&[u8], PortFault> {
+        self.late = late_after(self.faults, self.late);
         let number = place as usize;
         let position = self.position(place);
         if spend_failure(&mut self.failures, place, position) {
@@ -137,6 +143,7 @@ impl Places for MemoryPlaces {
     }
 
     fn consume(&mut self, place: u32, n: usize) {
+        self.late = late_after(self.faults, self.late);
         let number = place as usize;
         let MemoryPlace { file, mark } = self.places[number];
         self.places[number] = MemoryPlace {

@@ -1,7 +1,8 @@
 // A sink in memory.
 ghost use Rattle.std.specs.Prelude.{◌≡◌, ◌↔◌, ◌≤◌, [], Some, MatchOption, length, Contains, IsTrue};
-ghost use Rattle.lucid_ports.specs.Sink.{IsListed, WritesToMemory, number_after, sink_bytes, sink_failures, sink_faults, sink_most, sink_next};
+ghost use Rattle.lucid_ports.specs.Sink.{IsListed, WritesToMemory, number_after, sink_bytes, sink_failures, sink_faults, sink_late, sink_most, sink_next};
 
+use crate::late::late_after;
 use crate::piece_limit::PieceLimit;
 use crate::{PortFault, Sink};
 use std::alloc::Global;
@@ -14,6 +15,7 @@ pub struct MemorySink {
     failures: Vec<u64>,
     next: Option<u64>,
     faults: u64,
+    late: u64,
 }
 
 impl MemorySink {
@@ -25,6 +27,7 @@ impl MemorySink {
         ensures failures { sink_failures result ≡ failures.items }
         ensures next { sink_next result ≡ Some 0 }
         ensures faults { sink_faults result ≡ 0 }
+        ensures late { sink_late result ≡ 0 }
     {
         MemorySink {
             bytes: Vec::new(alloc),
@@ -32,6 +35,7 @@ impl MemorySink {
             failures,
             next: Some(0),
             faults: 0,
+            late: 0,
         }
     }
 
@@ -48,9 +52,12 @@ impl Sink for MemorySink {
 
     ghost faults = { sink_faults };
 
+    ghost late = { sink_late };
+
     ghost write_gives = { WritesToMemory };
 
     fn write(&mut self, piece: &[u8]) -> Result<usize, PortFault> {
+        self.late = late_after(self.faults, self.late);
         let number = self.next;
         self.next = next_number(number);
         if is_listed(&self.failures, number) {

@@ -5,7 +5,7 @@ ghost use Rattle.std.specs.Io.{StartsWith};
 ghost use Rattle.std.specs.Io.BufRead.{Rests};
 ghost use denote.Ref.{Bor};
 ghost use Rattle.lucid_ports.specs.declared.fault.PortFault.{PortFault as Fault};
-ghost use Rattle.lucid_ports.specs.Faults.{CountsNoFaultUnless, Rises};
+ghost use Rattle.lucid_ports.specs.Faults.{CountsLate, CountsNoFaultUnless, Rises};
 ghost use Rattle.lucid_ports.specs.Reading.{Fills};
 ghost use Rattle.lucid_ports.specs.World.{World, IsFresh, IsConsumed, KeepsOthers, AsksName};
 
@@ -17,7 +17,7 @@ use std::alloc::Global;
 /// A place shows a piece of the bytes that are left, and the reader says how many of them it consumes. What is said of
 /// contents holds where the object tells them; what is said of faults holds for every object.
 pub trait Places {
-    /// What the names hold, those that were asked for, the places reached and the count of faults.
+    /// What the names hold, those that were asked for, the places reached, and the counts of faults and of late calls.
     ghost world: { Self → World };
 
     /// What more is known of a call of `reach` on such an object: of the object before, the name, the answer and the object after.
@@ -42,6 +42,7 @@ pub trait Places {
         ensures failed { IsErrOf result PortFault.Failed → Rises (world self.old).faults (world self.new).faults }
         ensures counts_no_fault { CountsNoFaultUnless (IsErrOf result PortFault.Failed) (world self.old).faults (world self.new).faults }
         ensures others { AsksName name.now (IsErrOf result PortFault.NoMemory) (world self.old) (world self.new) }
+        ensures counts_late { CountsLate (world self.old).faults (world self.old).late (world self.new).late }
         ensures gives { reach_gives self.old name.now result self.new };
 
     /// Shows a piece of what is left at a place, and consumes nothing.
@@ -52,7 +53,7 @@ pub trait Places {
         ensures front { IfOk result (λ piece. IfSome ((world self.old).place place).contents (λ c. StartsWith c.left piece.now)) }
         ensures end { IfOk result (λ piece. IfSome ((world self.old).place place).contents (λ c. (piece.now ≡ []) ↔ (c.left ≡ []))) }
 
-        // The number of bytes shown is the piece's, and a refusal changes nothing but the count of faults.
+        // The number of bytes shown is the piece's, and a refusal changes nothing but the counts.
         ensures* after_borrow { sem 𝓛 (Rests Self.row self.entry (λ new.
             Fills (world self.old) place result (world new) × fill_gives self.old place result new)) };
 
@@ -64,5 +65,6 @@ pub trait Places {
         ensures reached { (world self.new).reached ≡ (world self.old).reached }
         ensures others { KeepsOthers place (world self.old) (world self.new) }
         ensures counts_no_fault { (world self.new).faults ≡ (world self.old).faults }
+        ensures counts_late { CountsLate (world self.old).faults (world self.old).late (world self.new).late }
         ensures gives { consume_gives self.old place n self.new };
 }

@@ -1,6 +1,6 @@
 // Reading a place by pieces.
 ghost use Rattle.std.specs.Prelude.{◌≡◌, ◌<◌, ◌≤◌, ◌+◌, ◌++◌, ℕ, [], take, IfOk, IfSome, OnErr, IsErrOf, option_map, vec_len};
-ghost use Rattle.lucid_ports.specs.Faults.{CountsNoFaultUnless, Rises};
+ghost use Rattle.lucid_ports.specs.Faults.{AsksNoneLate, CountsNoFaultUnless, Rises};
 ghost use Rattle.lucid_ports.specs.World.{World, advanced, KeepsOthers};
 
 use crate::{Places, PortFault};
@@ -27,6 +27,7 @@ pub fn read_at_most<P: Places>(
 
     ensures failed { IsErrOf result PortFault.Failed → Rises (P.world places.old).faults (P.world places.new).faults }
     ensures counts_no_fault { CountsNoFaultUnless (IsErrOf result PortFault.Failed) (P.world places.old).faults (P.world places.new).faults }
+    ensures late { AsksNoneLate (P.world places.old) (P.world places.new) }
 {
     let mut bytes = Vec::new(alloc);
     while bytes.len() < most {
@@ -57,6 +58,7 @@ fn take_piece<P: Places>(
     ensures others { KeepsOthers place (P.world places.old) (P.world places.new) }
     ensures failed { IsErrOf result PortFault.Failed → Rises (P.world places.old).faults (P.world places.new).faults }
     ensures counts_no_fault { CountsNoFaultUnless (IsErrOf result PortFault.Failed) (P.world places.old).faults (P.world places.new).faults }
+    ensures late { AsksNoneLate (P.world places.old) (P.world places.new) }
 {
     let piece = places.fill(place)?;
     let n = room.min(piece.len());

@@ -1,11 +1,12 @@
 // The real places.
 ghost use Rattle.std.specs.Prelude.{◌≡◌, [], IfSome, IfNone, IsErrOf, option_map};
 ghost use Rattle.lucid_ports.specs.Faults.{faults_after};
-ghost use Rattle.lucid_ports.specs.RealPlacesView.{AsksWhereNone, PlaceAsks, place_at, real_faults, real_names, real_outside, real_reached, real_world, source_of};
+ghost use Rattle.lucid_ports.specs.RealPlacesView.{AsksWhereNone, PlaceAsks, place_at, real_faults, real_late, real_names, real_outside, real_reached, real_world, source_of};
 ghost use Rattle.lucid_ports.specs.Source.{source_contents, source_shown};
 ghost use Rattle.lucid_ports.specs.World.{unread};
 
 use crate::host::{Host, HostReader};
+use crate::late::late_after;
 use crate::real_place::RealPlace;
 use crate::source::Source;
 use crate::standard_input::StandardInput;
@@ -29,6 +30,7 @@ pub struct RealPlaces<O, F: Supply, I: Preview> {
     names: Vec<String>,
     places: Vec<RealPlace<F, I>>,
     faults: u64,
+    late: u64,
 }
 
 impl<R: Files + Input> RealPlaces<
@@ -41,6 +43,7 @@ impl<R: Files + Input> RealPlaces<
         ensures unasked { real_names result ≡ [] }
         ensures none { real_reached result ≡ 0 }
         ensures faults { real_faults result ≡ 0 }
+        ensures late { real_late result ≡ 0 }
     {
         RealPlaces::over(alloc, Host::make(rt))
     }
@@ -53,12 +56,14 @@ impl<O: Outside> RealPlaces<O, <O as Outside>::File, <O as Outside>::Input> {
         ensures unasked { real_names result ≡ [] }
         ensures none { real_reached result ≡ 0 }
         ensures faults { real_faults result ≡ 0 }
+        ensures late { real_late result ≡ 0 }
     {
         RealPlaces {
             outside,
             names: Vec::new(alloc),
             places: Vec::new(alloc),
             faults: 0,
+            late: 0,
         }
     }
 }
@@ -79,6 +84,7 @@ impl<O: Outside> Places for RealPlaces<O, <O as Outside>::File, <O as Outside>::
         (source_of (place_at new place) ≡ source_of (place_at old place)) result };
 
     fn reach(&mut self, alloc: Global, name: &str) -> Result<u32, PortFault> {
+        self.late = late_after(self.faults, self.late);
         self.names.push(String::from_str(alloc, name)?)?;
         let number = self.places.len() as u32;
         let Some(source) = open(&self.outside, name) else {
@@ -91,6 +97,7 @@ impl<O: Outside> Places for RealPlaces<O, <O as Outside>::File, <O as Outside>::
     }
 
     fn fill(&mut self, place: u32) -> Result<&[u8], PortFault> {
+        self.late = late_after(self.faults, self.late);
         let number = place as usize;
         if self.places[number].fill().is_none() {
             self.faults = self.faults.saturating_add(1);
@@ -100,6 +107,7 @@ impl<O: Outside> Places for RealPlaces<O, <O as Outside>::File, <O as Outside>::
     }
 
     fn consume(&mut self, place: u32, n: usize) {
+        self.late = late_after(self.faults, self.late);
         self.places[place as usize].consume(n);
     }
 }

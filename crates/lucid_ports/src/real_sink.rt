@@ -1,9 +1,10 @@
 // The real sinks.
 ghost use Rattle.std.specs.Prelude.{◌≡◌, ◌≤◌, [], length, IfNone, IfSome};
 ghost use Rattle.lucid_ports.specs.Faults.{faults_after};
-ghost use Rattle.lucid_ports.specs.RealSinkView.{sink_count, sink_writer};
+ghost use Rattle.lucid_ports.specs.RealSinkView.{real_sink_late, sink_count, sink_writer};
 ghost use Rattle.lucid_ports.specs.Writing.{with_front};
 
+use crate::late::late_after;
 use crate::output::Output;
 use crate::{PortFault, Sink};
 
@@ -17,18 +18,21 @@ pub struct RealSink<W> {
     writer: W,
     unflushed: bool,
     faults: u64,
+    late: u64,
 }
 
 impl<W: Output> RealSink<W> {
     /// A sink over a writer, as `rt.stdout()` gives one.
     pub fn make(writer: W) -> RealSink<W>
         ensures faults { sink_count result ≡ 0 }
+        ensures late { real_sink_late result ≡ 0 }
         ensures writer { sink_writer result ≡ writer }
     {
         RealSink {
             writer,
             unflushed: false,
             faults: 0,
+            late: 0,
         }
     }
 
@@ -46,6 +50,7 @@ impl<W: Output> RealSink<W> {
         ensures appended { IfSome result (λ n. W.contents (sink_writer self.new) ≡ with_front n piece.now (W.contents (sink_writer self.old))) }
         ensures refused { IfNone result (W.contents (sink_writer self.new) ≡ W.contents (sink_writer self.old)) }
         ensures faults { sink_count self.new ≡ sink_count self.old }
+        ensures late { real_sink_late self.new ≡ real_sink_late self.old }
     {
         if self.unflushed && !is_flushed(&mut self.writer) {
             return None;
@@ -80,9 +85,12 @@ impl<W: Output> Sink for RealSink<W> {
 
     ghost faults = { sink_count };
 
+    ghost late = { real_sink_late };
+
     ghost write_gives = { λ old piece result new. sink_count new ≡ faults_after (sink_count old) result };
 
     fn write(&mut self, piece: &[u8]) -> Result<usize, PortFault> {
+        self.late = late_after(self.faults, self.late);
         match self.write_and_flush(piece) {
             Some(taken) => Ok(taken),
             None => {

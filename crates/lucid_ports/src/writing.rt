@@ -1,6 +1,6 @@
 // Writing a piece whole.
 ghost use Rattle.std.specs.Prelude.{◌≡◌, ◌≤◌, ℕ, length, OnOk, IsErrOf};
-ghost use Rattle.lucid_ports.specs.Faults.{CountsNoFaultUnless, Rises};
+ghost use Rattle.lucid_ports.specs.Faults.{CountsNoFaultUnless, EndsAtItsFault, Rises};
 ghost use Rattle.lucid_ports.specs.Writing.{EndsAtFault, with_all, with_front};
 
 use crate::{PortFault, Sink};
@@ -13,6 +13,7 @@ pub fn write_whole<K: Sink>(sink: &mut K, piece: &[u8]) -> Result<(), PortFault>
     ensures front { (n : ℕ) × (n ≤ length piece.now) × (K.written sink.new ≡ with_front n piece.now (K.written sink.old)) }
 
     // No write comes after one that failed.
+    ensures late { EndsAtItsFault (K.faults sink.old) (K.late sink.old) (K.late sink.new) }
     ensures ends { EndsAtFault K.write_gives sink.old result sink.new }
 
     ensures failed { IsErrOf result PortFault.Failed → Rises (K.faults sink.old) (K.faults sink.new) }

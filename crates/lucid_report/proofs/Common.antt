@@ -5,7 +5,7 @@ pub use Rattle.lucid_ports.specs.Writing.{with_all}
 pub use Rattle.lucid_ports.specs.declared.fault.PortFault.TheVariants.{Failed}
 pub use Rattle.lucid_report.specs.Lines.{line_of}
 pub use Rattle.lucid_report.specs.Telling.{WritesFront, WritesWhole}
-pub use Rattle.std.proofs.Common.{Err, List, None, Option, Some, [], ap, append_assoc, arith, drop, get_or, length, refl, subst, sym, ℕ, ◌++◌, ◌+◌, ◌<◌, ◌∙◌, ◌∷◌, ◌≡◌, ◌≤◌}
+pub use Rattle.std.proofs.Common.{Err, List, None, Ok, Option, Some, [], ap, append_assoc, arith, drop, get_or, length, refl, subst, sym, ℕ, ◌++◌, ◌+◌, ◌<◌, ◌∙◌, ◌∷◌, ◌≡◌, ◌≤◌}
 pub use Rattle.std.proofs.lemmas.List.{take-append-drop, take-append-le, take_more}
 pub use Rattle.std.proofs.lemmas.Result.{err_from_is_err_and}
 pub use Rattle.std.specs.Prelude.{decimal}

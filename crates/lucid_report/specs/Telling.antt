@@ -4,7 +4,7 @@ use Rattle.lucid_ports.specs.declared.fault.PortFault.{PortFault}
 use Rattle.lucid_ports.specs.declared.fault.PortFault.TheVariants.{Failed, NoMemory}
 use Rattle.lucid_ports.specs.Faults.{Rises}
 use Rattle.lucid_ports.specs.Writing.{with_front, with_all}
-use Rattle.lucid_ports.specs.Told.{Told}
+use Rattle.lucid_ports.specs.Told.{Told, WritesNoneLate}
 use Rattle.lucid_report.specs.declared.status.Status.{Status}
 use Rattle.lucid_report.specs.declared.status.Status.TheVariants as status
 use Rattle.lucid_report.specs.Status.{Outcome, status_of}
@@ -22,6 +22,10 @@ abbrev pub WritesLine : {T : Type 0} → List ℕ → Result T PortFault → (be
 WritesLine line (Ok x) before after = WritesWhole line before after
 WritesLine line (Err Failed) before after = WritesFront line before after × Rises before.faults after.faults
 WritesLine line (Err NoMemory) before after = WritesFront line before after
+
+-- And nothing is written after a write that failed.
+abbrev pub ReportsLine : {T : Type 0} → List ℕ → Result T PortFault → (before after : Told) → Type 0
+ReportsLine line result before after = WritesLine line result before after × WritesNoneLate before after
 
 -- The outcome is told: by its status and its line; or by its status and a front of the line, where a write of the report failed; or
 -- there was no memory to write the line.

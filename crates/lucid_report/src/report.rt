@@ -1,8 +1,9 @@
 //! The report: one line of fixed texts, names and digits, which takes no memory.
-ghost use Rattle.std.specs.Prelude.{◌≤◌, ◌++◌, ◌∷◌, [], codes};
-ghost use Rattle.lucid_ports.specs.Told.{told};
+ghost use Rattle.std.specs.Prelude.{◌≤◌, ◌++◌, ◌∷◌, [], codes, IsErrOf};
+ghost use Rattle.lucid_ports.specs.Faults.{CountsNoFaultUnless};
+ghost use Rattle.lucid_ports.specs.Told.{told, WritesNoneLate};
 ghost use Rattle.lucid_report.specs.Lines.{line_of, line_at, line_with, refusal_line, depth_line, figures_line, stop_line, outcome_line};
-ghost use Rattle.lucid_report.specs.Telling.{WritesLine, Tells};
+ghost use Rattle.lucid_report.specs.Telling.{WritesLine, ReportsLine, Tells};
 
 use crate::refusal::Refusal;
 use crate::status::Status;
@@ -27,7 +28,9 @@ use Part::{Number, Text};
 
 // Writes one part of a line.
 fn write_part<E: Sink>(report: &mut E, part: Part<'_>) -> Result<(), PortFault>
-    ensures line { WritesLine (line_of (part.entry ∷ [])) result (told E.written E.faults report.old) (told E.written E.faults report.new) }
+    ensures line { WritesLine (line_of (part.entry ∷ [])) result (told E.written E.faults E.late report.old) (told E.written E.faults E.late report.new) }
+    ensures late { WritesNoneLate (told E.written E.faults E.late report.old) (told E.written E.faults E.late report.new) }
+    ensures counts_no_fault { CountsNoFaultUnless (IsErrOf result PortFault.Failed) (E.faults report.old) (E.faults report.new) }
     ensures count { E.faults report.old ≤ E.faults report.new }
 {
     match part {
@@ -38,7 +41,7 @@ fn write_part<E: Sink>(report: &mut E, part: Part<'_>) -> Result<(), PortFault>
 
 // Writes a line of these parts.
 fn write_line<E: Sink>(report: &mut E, parts: &[Part<'_>]) -> Result<(), PortFault>
-    ensures { WritesLine (line_of parts.now) result (told E.written E.faults report.old) (told E.written E.faults report.new) }
+    ensures { ReportsLine (line_of parts.now) result (told E.written E.faults E.late report.old) (told E.written E.faults E.late report.new) }
 {
     for part in parts {
         write_part(report, *part)?;
@@ -48,7 +51,7 @@ fn write_line<E: Sink>(report: &mut E, parts: &[Part<'_>]) -> Result<(), PortFau
 
 // Writes a line that ends with a number.
 fn write_at<E: Sink>(report: &mut E, text: &[u8], number: u64) -> Result<(), PortFault>
-    ensures { WritesLine (line_at text.now number) result (told E.written E.faults report.old) (told E.written E.faults report.new) }
+    ensures { ReportsLine (line_at text.now number) result (told E.written E.faults E.late report.old) (told E.written E.faults E.late report.new) }
 {
     write_line(report, &[Text(text), Number(number), Text(b"\n")])
 }
@@ -60,21 +63,21 @@ fn write_numbered<'a, E: Sink>(
     number: u64,
     after: &'a [u8],
 ) -> Result<(), PortFault>
-    ensures { WritesLine (line_with before.now number after.now) result (told E.written E.faults report.old) (told E.written E.faults report.new) }
+    ensures { ReportsLine (line_with before.now number after.now) result (told E.written E.faults E.late report.old) (told E.written E.faults E.late report.new) }
 {
     write_line(report, &[Text(before), Number(number), Text(after)])
 }
 
 // Writes the line of a row that is wrong in the flat form.
 fn write_wrong<E: Sink>(report: &mut E, row: &[u8], at: u32) -> Result<(), PortFault>
-    ensures { WritesLine (line_with row.now at (codes " is wrong\n")) result (told E.written E.faults report.old) (told E.written E.faults report.new) }
+    ensures { ReportsLine (line_with row.now at (codes " is wrong\n")) result (told E.written E.faults E.late report.old) (told E.written E.faults E.late report.new) }
 {
     write_numbered(report, row, u64::from(at), b" is wrong\n")
 }
 
 // Writes the line of a call with another number of arguments than the function has parameters.
 fn write_arity<E: Sink>(report: &mut E, at: u32, wanted: u32, given: u32) -> Result<(), PortFault>
-    ensures { WritesLine (refusal_line (Refusal.Arity at wanted given)) result (told E.written E.faults report.old) (told E.written E.faults report.new) }
+    ensures { ReportsLine (refusal_line (Refusal.Arity at wanted given)) result (told E.written E.faults E.late report.old) (told E.written E.faults E.late report.new) }
 {
     write_line(
         report,
@@ -92,7 +95,7 @@ fn write_arity<E: Sink>(report: &mut E, at: u32, wanted: u32, given: u32) -> Res
 
 // Writes a line whole.
 fn write_text<E: Sink>(report: &mut E, line: &[u8]) -> Result<(), PortFault>
-    ensures { WritesLine line.now result (told E.written E.faults report.old) (told E.written E.faults report.new) }
+    ensures { ReportsLine line.now result (told E.written E.faults E.late report.old) (told E.written E.faults E.late report.new) }
 {
     write_line(report, &[Text(line)])
 }
@@ -104,14 +107,14 @@ fn write_named<E: Sink>(
     name: &Name,
     after: &[u8],
 ) -> Result<(), PortFault>
-    ensures { WritesLine (before.now ++ (name.now ++ after.now)) result (told E.written E.faults report.old) (told E.written E.faults report.new) }
+    ensures { ReportsLine (before.now ++ (name.now ++ after.now)) result (told E.written E.faults E.late report.old) (told E.written E.faults E.late report.new) }
 {
     write_line(report, &[Text(before), Text(name.bytes()), Text(after)])
 }
 
 // Writes the line of a refusal.
 fn write_refusal<E: Sink>(report: &mut E, refusal: &Refusal) -> Result<(), PortFault>
-    ensures { WritesLine (refusal_line refusal.now) result (told E.written E.faults report.old) (told E.written E.faults report.new) }
+    ensures { ReportsLine (refusal_line refusal.now) result (told E.written E.faults E.late report.old) (told E.written E.faults E.late report.new) }
 {
     match refusal {
         Refusal::Usage => write_text(report, USAGE),
@@ -157,7 +160,7 @@ fn write_depth<E: Sink>(
     cleared: u64,
     stats: bool,
 ) -> Result<(), PortFault>
-    ensures { WritesLine (depth_line time lost cleared stats) result (told E.written E.faults report.old) (told E.written E.faults report.new) }
+    ensures { ReportsLine (depth_line time lost cleared stats) result (told E.written E.faults E.late report.old) (told E.written E.faults E.late report.new) }
 {
     if stats {
         write_line(
@@ -179,7 +182,7 @@ fn write_depth<E: Sink>(
 
 // Writes the line of a call that was stopped.
 fn write_stop<E: Sink>(report: &mut E, stop: &Stop) -> Result<(), PortFault>
-    ensures { WritesLine (stop_line stop.now) result (told E.written E.faults report.old) (told E.written E.faults report.new) }
+    ensures { ReportsLine (stop_line stop.now) result (told E.written E.faults E.late report.old) (told E.written E.faults E.late report.new) }
 {
     match stop {
         Stop::Refused(refusal) => write_refusal(report, refusal),
@@ -201,7 +204,7 @@ fn write_stop<E: Sink>(report: &mut E, stop: &Stop) -> Result<(), PortFault>
 
 // Writes the line of the figures of a run.
 fn write_figures<E: Sink>(report: &mut E, summary: Summary) -> Result<(), PortFault>
-    ensures { WritesLine (figures_line summary) result (told E.written E.faults report.old) (told E.written E.faults report.new) }
+    ensures { ReportsLine (figures_line summary) result (told E.written E.faults E.late report.old) (told E.written E.faults E.late report.new) }
 {
     write_line(
         report,
@@ -221,7 +224,7 @@ fn write_figures<E: Sink>(report: &mut E, summary: Summary) -> Result<(), PortFa
 
 // Writes the line of what comes of a call, if there is one.
 fn write_outcome<E: Sink>(report: &mut E, outcome: &Result<Done, Stop>) -> Result<(), PortFault>
-    ensures { WritesLine (outcome_line outcome.now) result (told E.written E.faults report.old) (told E.written E.faults report.new) }
+    ensures { ReportsLine (outcome_line outcome.now) result (told E.written E.faults E.late report.old) (told E.written E.faults E.late report.new) }
 {
     match outcome {
         Ok(
@@ -237,7 +240,8 @@ fn write_outcome<E: Sink>(report: &mut E, outcome: &Result<Done, Stop>) -> Resul
 
 /// Reports what comes of a call, and gives the status. A fault of the report doesn't change it.
 pub fn tell<E: Sink>(report: &mut E, outcome: &Result<Done, Stop>) -> Status
-    ensures { Tells outcome.now result (told E.written E.faults report.old) (told E.written E.faults report.new) }
+    ensures tells { Tells outcome.now result (told E.written E.faults E.late report.old) (told E.written E.faults E.late report.new) }
+    ensures late { WritesNoneLate (told E.written E.faults E.late report.old) (told E.written E.faults E.late report.new) }
 {
     match write_outcome(report, outcome) {
         Ok(()) | Err(PortFault::Failed) => Status::of(outcome),

@@ -8,6 +8,7 @@ use Rattle.lucid_demand_steps.specs.Engine as facts
 use Rattle.lucid_demand_steps.specs.Faults as faults
 use Rattle.lucid_demand_steps.specs.declared.fault.DemandFault.TheVariants.{TooDeep, ReadFault, TooLarge, NoMemory}
 use Rattle.lucid_session.specs.Runs as runs
+use Rattle.lucid_ports.specs.Told.{WritesNoneLate}
 use Rattle.lucid_session.proofs.Stopped.{figures_nothing}
 use Rattle.lucid_session.proofs.Subjects.{no_end, undefined_there, not_defined, consults_there}
 use Rattle.lucid_session.proofs.Told.{place_at}
@@ -218,13 +219,16 @@ module _ (z : Start) (b : Elements) (e : EngineView) (w : World) (o : Told) (t s
   figures_refused (TooLarge k) found = record { held = λ keeps. tt; deep = λ keeps. tt; cleared = tt }
   figures_refused NoMemory found = record { held = λ keeps. tt; deep = λ keeps. tt; cleared = tt }
 
-module _ (z : Start) (e : EngineView) (w : World) (o : Told) (t s c : ℕ) (no_write_failed : o.faults ≡ z.out_before.faults) where
+module _ (z : Start) (e : EngineView) (w : World) (o : Told) (t s c : ℕ) (no_write_failed : o.faults ≡ z.out_before.faults)
+    (late : WritesNoneLate z.out_before o) where
   causes_refused : (f : DemandFault) → Asked z (before z t s) e w c t s (Err f) → Causes (seen z w o) (Err (of_demand t e.stored.lost c f))
   causes_refused f asked = record {
     read = read f asked.failed;
     write = write f;
     no_other_read = other f asked.counts_no_fault;
     no_other_write = inr no_write_failed;
+    read_late = asked.late;
+    write_late = late;
     read_count = asked.reads_only.faults;
     write_count = omega (arith, no_write_failed);
     too_large = large f asked.too_large;
@@ -268,7 +272,7 @@ module _ (z : Start) (e : EngineView) (w : World) (o : Told) (t s c : ℕ) (no_w
 
 -- So does want of memory, between two demands.
 module _ (z : Start) (e : EngineView) (w : World) (o : Told) (t s c : ℕ) (no_write_failed : o.faults ≡ z.out_before.faults)
-    (standing : Standing z (before z t s) e w c)
+    (late : WritesNoneLate z.out_before o) (standing : Standing z (before z t s) e w c)
     (lines : (b : Elements) → Has z b → HasLines z b o t) (early : t < z.count) where
   ran_short : (b : Elements) → Has z b → Ran (subject z) b (seen z w o) (Err run.NoMemory)
   ran_short b has = record {
@@ -295,6 +299,8 @@ module _ (z : Start) (e : EngineView) (w : World) (o : Told) (t s c : ℕ) (no_w
       write = λ h. absurd (cc);
       no_other_read = inr standing.no_read_failed;
       no_other_write = inr no_write_failed;
+      read_late = standing.late;
+      write_late = late;
       read_count = standing.reads_only.faults;
       write_count = omega (arith, no_write_failed);
       too_large = tt;
@@ -305,7 +311,8 @@ module _ (z : Start) (e : EngineView) (w : World) (o : Told) (t s c : ℕ) (no_w
 
 -- So does the end, at which no line is written, after all demands of its time; and so does the count.
 module _ (z : Start) (e : EngineView) (w : World) (o : Told) (t a c : ℕ) (standing : Standing z (before z a 0) e w c) (each : IsOneForEach e.stored)
-    (no_write_failed : o.faults ≡ z.out_before.faults) (lines : (b : Elements) → Has z b → HasLines z b o t) (s : Summary)
+    (no_write_failed : o.faults ≡ z.out_before.faults) (late : WritesNoneLate z.out_before o)
+    (lines : (b : Elements) → Has z b → HasLines z b o t) (s : Summary)
     (is : s ≡ record { lines = t; ended = s.ended; held = count_of e.stored; lost = e.stored.lost; cleared = c }) where
   pub promise_done : t ≤ z.count → a ≤ z.count → a ≤ suc t → times_of s ≡ a → ((b : Elements) → Has z b → EndsAt (subject z) b (seen z w o) s.ended t)
       → ((b : Elements) → Has z b → IsTrue z.policy.empties → s.ended ≡ true → (subject z).defined b z.depth t)
@@ -320,6 +327,8 @@ module _ (z : Start) (e : EngineView) (w : World) (o : Told) (t a c : ℕ) (stan
       write = λ h. absurd (cc);
       no_other_read = inr standing.no_read_failed;
       no_other_write = inr no_write_failed;
+      read_late = standing.late;
+      write_late = late;
       read_count = standing.reads_only.faults;
       write_count = omega (arith, no_write_failed);
       too_large = tt;

@@ -35,6 +35,7 @@ begins z D e is sound askable places known stored never = record {
   within = λ k n q is old new before after. inl (omega (arith, ap (λ c. length c.consumed) (same_contents (z.before.place q).contents new old after before)));
   few_held = few_at z.policy.room (count_of e.stored) (ap count_of stored);
   no_read_failed = refl;
+  late = λ good. refl;
   so_far = λ b has. record {
     visited = record {
       drawn = at_once z.policy.empties (λ d. (k : ℕ) → k < length z.table.inputs → Draws z b (D b) z.before k d)
@@ -60,6 +61,7 @@ stands_on z D e w c t s v asked = record {
   within = asked.within;
   few_held = asked.few_held;
   no_read_failed = elim asked.counts_no_fault [ inl fault ↦ absurd (cc fault) | inr same ↦ same ];
+  late = asked.late;
   so_far = λ b has. let f = asked.found b has in record { visited = f.visited; holds = f.holds };
 }
 
@@ -96,6 +98,7 @@ stands_same z D E e w c same standing = record {
   within = standing.within;
   few_held = standing.few_held;
   no_read_failed = standing.no_read_failed;
+  late = standing.late;
   so_far = λ b has. let far = standing.so_far b has in record {
     visited = visited_too z b (D b) (E b) (λ t s. (same b has t s).0) e w c far.visited;
     holds = holds_too z b (D b) (E b) (λ t s. (same b has t s).0) (λ t s. (same b has t s).1) e c far.holds;
@@ -192,6 +195,7 @@ module _ (z : Start) (D : Elements → (time space : ℕ) → Type 0) (e f : Eng
       few_held = d.few_held standing.few_held;
       failed = λ x. rises_over z.before.faults w.faults v.faults v.faults standing.reads_only.faults d.reads_only.faults (omega arith) (d.failed x);
       counts_no_fault = elim d.counts [ inl fault ↦ inl fault | inr same ↦ inr (same ∙ standing.no_read_failed) ];
+      late = λ good. d.late (standing.no_read_failed ∙ good) ∙ standing.late good;
       too_large = named result elements (large result elements d.told d.too_large);
       found = found_now;
     }

@@ -76,6 +76,7 @@ module _ (z : Start) (e : EngineView) (is : e ≡ of_run z e) (sound : IsSound e
     standing = begins z (before z 0 0) e is sound askable places known stored
         (λ b t s i. elim i.0 [ inl lt ↦ absurd (omega (arith, lt)) | inr at ↦ absurd (omega (arith, at.1)) ]);
     no_write_failed = refl;
+    late = λ good. refl;
     lines = λ b has. record { bytes = []; output = no_lines; written = with_nothing z.out_before.bytes; exact = λ empties u lt. absurd (omega (arith, lt)) };
   }
 
@@ -104,10 +105,10 @@ module _ (z : Start) (e f : EngineView) (w v : World) (o : Told) (t c d : ℕ) (
   pub stopped_there : (q : RunFault) → StopsAt z f v t d q → PromisesColumns z.table z.columns (seen z v o) (Err q)
   stopped_there q (inl r) =
       subst (λ x. PromisesColumns z.table z.columns (seen z v o) (Err x)) (sym r.is)
-      (promise_refused z f v o t r.space d going.no_write_failed r.fault r.asked r.demanded going.lines early)
+      (promise_refused z f v o t r.space d going.no_write_failed going.late r.fault r.asked r.demanded going.lines early)
   stopped_there q (inr r) =
       subst (λ x. PromisesColumns z.table z.columns (seen z v o) (Err x)) (sym r.is)
-      (promise_short z f v o t r.space d going.no_write_failed r.standing going.lines early)
+      (promise_short z f v o t r.space d going.no_write_failed going.late r.standing going.lines early)
 
   module _ (standing : Standing z (before z (t + 1) 0) f v d) (line : List ℕ) where
     -- all columns have ended
@@ -119,7 +120,7 @@ module _ (z : Start) (e f : EngineView) (w v : World) (o : Told) (t c d : ℕ) (
           let ended : s.ended ≡ true = ap (λ y. y.ended) is in
           let times : times_of s ≡ suc t = ap times_of is in
           promise_done z g v o t (suc t) n (subst (λ q. Standing z (before z q 0) g v n) (add-one t) (standing_then many)) each going.no_write_failed
-          going.lines s
+          going.late going.lines s
           (subst (λ y. s ≡ record { lines = t; ended = y; held = count_of g.stored; lost = g.stored.lost; cleared = n }) (sym ended) is)
           (omega (arith, early)) (omega (arith, early)) (omega arith) times
           (λ b has. subst (λ y. EndsAt (subject z) b (seen z v o) y t) (sym ended) (early, all_ended b has))
@@ -141,6 +142,7 @@ module _ (z : Start) (e f : EngineView) (w v : World) (o : Told) (t c d : ℕ) (
       came = record {
         standing = subst (λ q. Standing z (before z q 0) f v d) (add-one t) standing;
         no_write_failed = going.no_write_failed;
+        late = going.late;
         lines = going.lines;
         stands = λ b has. let h = cells b has in (h.cells, h.are, some_goes h.some, ap (λ x. x ++ 10 ∷ []) h.joined);
         exact = λ b has. defined_there z b t line true (cells b has);
@@ -161,6 +163,7 @@ module _ (z : Start) (e f : EngineView) (w v : World) (o : Told) (t c d : ℕ) (
           subst (λ y. Going z g v p y n) (sym (add-one t)) (record {
             standing = cleared_after f g d n many z (before z (suc t) 0) v written.standing;
             no_write_failed = written.no_write_failed;
+            late = written.late;
             lines = written.lines;
           })
 
@@ -171,7 +174,7 @@ pub counted_there : (z : Start) (e : EngineView) (w : World) (o : Told) (t c : �
 counted_there z e w o t c going all each s is =
     let ended : s.ended ≡ false = ap (λ y. y.ended) is in
     let times : times_of s ≡ z.count = ap times_of is in
-    promise_done z e w o t t c going.standing each going.no_write_failed going.lines s
+    promise_done z e w o t t c going.standing each going.no_write_failed going.late going.lines s
     (is ∙ (λ i. record { lines = sym all i; ended = sym ended i; held = count_of e.stored; lost = e.stored.lost; cleared = c }))
     (omega (arith, all)) (omega (arith, all)) (omega arith) (times ∙ sym all)
     (λ b has. subst (λ y. EndsAt (subject z) b (seen z w o) y t) (sym ended) all)

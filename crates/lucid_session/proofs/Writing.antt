@@ -5,6 +5,7 @@ use Rattle.lucid_ports.proofs.WritingLemmas.{all_all as all-all}
 use Rattle.lucid_store.specs.Entries.{cleared}
 use Rattle.lucid_ports.specs.Writing.{with_front}
 use Rattle.lucid_ports.specs.declared.run.RunFault.TheVariants as run
+use Rattle.lucid_ports.specs.Told.{WritesNoneLate}
 use Rattle.lucid_session.specs.Runs.{ConsultsOverlong}
 use Rattle.lucid_session.proofs.Added.{at_once}
 use Rattle.lucid_session.proofs.Knowing.{much_entered}
@@ -57,12 +58,14 @@ ran_stopped S b r out exact begun consumed within q refused rises = record {
 pub record Going (z : Start) (e : EngineView) (w : World) (o : Told) (times cleared : ℕ) : Type 0 where
   pub standing : Standing z (before z times 0) e w cleared
   pub no_write_failed : o.faults ≡ z.out_before.faults
+  pub late : WritesNoneLate z.out_before o
   pub lines : (b : Elements) → Has z b → HasLines z b o times
 
 -- A run whose values at a time were demanded, and a line stands there.
 pub record Came (z : Start) (e : EngineView) (w : World) (o : Told) (time cleared : ℕ) (next : List ℕ) : Type 0 where
   pub standing : Standing z (before z (suc time) 0) e w cleared
   pub no_write_failed : o.faults ≡ z.out_before.faults
+  pub late : WritesNoneLate z.out_before o
   pub lines : (b : Elements) → Has z b → HasLines z b o time
   pub stands : (b : Elements) → Has z b → (subject z).line b time next
   pub exact : (b : Elements) → Has z b → IsTrue z.policy.empties → (subject z).defined b z.depth time
@@ -99,6 +102,7 @@ module _ (z : Start) (e : EngineView) (w : World) (o p : Told) (t c : ℕ) (next
   going_on writes = record {
     standing = came.standing;
     no_write_failed = elim writes.counts_no_fault [ inl fault ↦ absurd (cc fault) | inr same ↦ same ∙ came.no_write_failed ];
+    late = λ good. writes.late (came.no_write_failed ∙ good) ∙ came.late good;
     lines = λ b has. lines_more z b o p t (came.lines b has) next (came.stands b has) writes.whole (came.exact b has);
   }
 
@@ -142,6 +146,8 @@ module _ (z : Start) (e : EngineView) (w : World) (o p : Told) (t c : ℕ) (next
         write = λ h. subst (λ f. Rises f p.faults) came.no_write_failed (writes.failed (ap Err (err_once h)));
         no_other_read = inr came.standing.no_read_failed;
         no_other_write = elim writes.counts_no_fault [ inl fault ↦ inl (ap Err (err_once fault)) | inr same ↦ inr (same ∙ came.no_write_failed) ];
+        read_late = came.standing.late;
+        write_late = λ good. writes.late (came.no_write_failed ∙ good) ∙ came.late good;
         read_count = came.standing.reads_only.faults;
         write_count = omega (arith, came.no_write_failed, writes.faults);
         too_large = quiet (λ x. OnTooLarge x (λ k. k < length z.table.inputs)) tt tt q writes.refused;
@@ -182,6 +188,7 @@ module _ (z : Start) (D : Elements → (time space : ℕ) → Type 0) (e f : Eng
     within = standing.within;
     few_held = few_at z.policy.room (count_of f.stored) (ap (λ x. count_of x.stored) is);
     no_read_failed = standing.no_read_failed;
+    late = standing.late;
     so_far = λ b has. let far = standing.so_far b has in record {
       visited = record {
         drawn = far.visited.drawn;

@@ -10,7 +10,7 @@ use Rattle.lucid_tree.specs.Members.{In}
 use Rattle.lucid_tags.specs.Contexts.{root}
 use Rattle.lucid_store.specs.Entries.{cleared}
 use Rattle.lucid_ports.specs.World.{World}
-use Rattle.lucid_ports.specs.Faults.{Rises, CountsNoFaultUnless}
+use Rattle.lucid_ports.specs.Faults.{Rises, AsksNoneLate, CountsNoFaultUnless}
 use Rattle.lucid_ports.specs.declared.run.RunFault.{RunFault}
 use Rattle.lucid_ports.specs.declared.run.RunFault.TheVariants as run
 use Rattle.lucid_equations.specs.Values.{eqval, eqhval}
@@ -52,6 +52,7 @@ pub record Asked (z : Start) (D : Elements → (time space : ℕ) → Type 0) (e
   pub few_held : HoldsFew z.policy.room e.stored
   pub failed : IsErrOf result ReadFault → Rises z.before.faults w.faults
   pub counts_no_fault : CountsNoFaultUnless (IsErrOf result ReadFault) z.before.faults w.faults
+  pub late : AsksNoneLate z.before w
   pub too_large : IfErr result (λ f. faults.OnTooLarge f (λ k. k < length z.table.inputs))
   pub found : (b : Elements) → Has z b → Found z b (D b) e w cleared time space result
 

@@ -6,6 +6,7 @@ use Rattle.lucid_tree.specs.Members.{In}
 use Rattle.lucid_tree.specs.Levels.{Elements}
 use Rattle.lucid_tags.specs.Contexts.{Context, root}
 use Rattle.lucid_ports.specs.World.{World, Contents}
+use Rattle.lucid_ports.specs.Faults.{AsksNoneLate}
 use Rattle.lucid_ports.specs.declared.run.Options.{Options}
 use Rattle.lucid_inputs.specs.Streams.{all_bytes}
 use Rattle.lucid_equations.specs.Datons.{Daton}
@@ -139,4 +140,5 @@ pub record Standing (z : Start) (D : Elements → (time space : ℕ) → Type 0)
   pub within : ReadsWithin (seen z w z.out_before)
   pub few_held : HoldsFew z.policy.room e.stored
   pub no_read_failed : w.faults ≡ z.before.faults
+  pub late : AsksNoneLate z.before w
   pub so_far : (b : Elements) → Has z b → SoFar z b (D b) e w cleared

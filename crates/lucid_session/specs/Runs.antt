@@ -5,8 +5,8 @@ use Rattle.lucid_value.specs.Lines.{end_of_line, IsOverlong}
 use Rattle.lucid_value.specs.Elements.{element}
 use Rattle.lucid_tree.specs.Levels.{Elements}
 use Rattle.lucid_ports.specs.World.{World, Contents}
-use Rattle.lucid_ports.specs.Faults.{Rises, CountsNoFaultUnless}
-use Rattle.lucid_ports.specs.Told.{Told}
+use Rattle.lucid_ports.specs.Faults.{Rises, AsksNoneLate, CountsNoFaultUnless}
+use Rattle.lucid_ports.specs.Told.{Told, WritesNoneLate}
 use Rattle.lucid_ports.specs.Writing.{with_all}
 use Rattle.lucid_ports.specs.declared.run.Options.{Options}
 use Rattle.lucid_ports.specs.declared.run.Summary.{Summary}
@@ -204,6 +204,9 @@ pub record Causes (r : RunView) (result : Result Summary RunFault) : Type 0 wher
   pub write : IsErrOf result WriteFault → Rises r.out_before.faults r.out_after.faults
   pub no_other_read : CountsNoFaultUnless (IsErrOf result ReadFault) r.before.faults r.after.faults
   pub no_other_write : CountsNoFaultUnless (IsErrOf result WriteFault) r.out_before.faults r.out_after.faults
+  -- A fault ends it: after one nothing is asked of the places, or written to the output.
+  pub read_late : AsksNoneLate r.before r.after
+  pub write_late : WritesNoneLate r.out_before r.out_after
   pub read_count : r.before.faults ≤ r.after.faults
   pub write_count : r.out_before.faults ≤ r.out_after.faults
   -- an input that is too large is one of the program's, by its number

@@ -5,6 +5,7 @@ ghost use Rattle.lucid_value.specs.Plain.{eod};
 ghost use Rattle.lucid_value.specs.View.{plain};
 ghost use Rattle.lucid_session.specs.Faults.{of_demand, of_write};
 ghost use Rattle.lucid_session.specs.Lines.{WritesLine};
+ghost use Rattle.lucid_ports.specs.Told.{told};
 
 use lucid_demand::DemandFault;
 use lucid_ports::{PortFault, RunFault, Sink, write_whole};
@@ -18,8 +19,7 @@ pub(crate) fn is_end(value: &Value) -> bool
 
 /// Writes a line as one piece, with its end.
 pub(crate) fn write_line<K: Sink>(line: &mut Vec<u8>, out: &mut K) -> Result<(), RunFault>
-    ensures { WritesLine (line.old.items ++ 10 ∷ []) (record { bytes = K.written out.old; faults = K.faults out.old })
-        (record { bytes = K.written out.new; faults = K.faults out.new }) result }
+    ensures { WritesLine (line.old.items ++ 10 ∷ []) (told K.written K.faults K.late out.old) (told K.written K.faults K.late out.new) result }
 {
     if line.push(b'\n').is_err() {
         return Err(RunFault::NoMemory);

@@ -41,7 +41,7 @@ pub fn run<P: Places, K: Sink, R: Retire, S: Pick>(
     requires streams { length (streams inputs) ≡ length (table_of program).inputs }
     requires askable { AreAskable (streams inputs) (P.world places.old) }
     ensures { Promises (stream_subject (table_stream (table_of program))) (table_counted (table_of program))
-        (run_view options.now (policy_view R.keeps R.empties R.most policy) (table_of program) inputs (P.world places.old) (P.world places.new) (told K.written K.faults out.old) (told K.written K.faults out.new)) result }
+        (run_view options.now (policy_view R.keeps R.empties R.most policy) (table_of program) inputs (P.world places.old) (P.world places.new) (told K.written K.faults K.late out.old) (told K.written K.faults K.late out.new)) result }
 {
     let mut is_open = [true];
     run_side_by_side(
@@ -77,7 +77,7 @@ pub fn run_columns<P: Places, K: Sink, R: Retire, S: Pick>(
     requires askable { AreAskable (streams inputs) (P.world places.old) }
     requires columns { columns ≤ MOST_COLUMNS }
     ensures { Promises (columns_subject (table_columns (table_of program) columns)) (columns_counted (table_of program) columns)
-        (run_view options.now (policy_view R.keeps R.empties R.most policy) (table_of program) inputs (P.world places.old) (P.world places.new) (told K.written K.faults out.old) (told K.written K.faults out.new)) result }
+        (run_view options.now (policy_view R.keeps R.empties R.most policy) (table_of program) inputs (P.world places.old) (P.world places.new) (told K.written K.faults K.late out.old) (told K.written K.faults K.late out.new)) result }
 {
     let mut is_open = [true; MOST_COLUMNS];
     run_side_by_side(
@@ -112,7 +112,7 @@ fn run_side_by_side<P: Places, K: Sink, R: Retire, S: Pick>(
     requires columns { length is_open.old ≤ 16 }
     requires opened { (j : ℕ) (mark : Bool) → slice_get is_open.old j ≡ Some mark → mark ≡ true }
     ensures { PromisesColumns (table_of program) (length is_open.old)
-        (run_view options.now (policy_view R.keeps R.empties R.most policy) (table_of program) inputs (P.world places.old) (P.world places.new) (told K.written K.faults out.old) (told K.written K.faults out.new)) result }
+        (run_view options.now (policy_view R.keeps R.empties R.most policy) (table_of program) inputs (P.world places.old) (P.world places.new) (told K.written K.faults K.late out.old) (told K.written K.faults K.late out.new)) result }
 {
     let Ok(mut engine) = Engine::make(alloc, program, inputs, policy, pick) else {
         return Err(RunFault::NoMemory);
@@ -142,7 +142,7 @@ fn write_lines<P: Places, K: Sink, R: Retire, S: Pick>(
     requires columns { length is_open.old ≤ 16 }
     requires opened { (j : ℕ) (mark : Bool) → slice_get is_open.old j ≡ Some mark → mark ≡ true }
     ensures { PromisesColumns engine.old.table (length is_open.old)
-        (engine_run options.now engine.old (P.world places.old) (P.world places.new) (told K.written K.faults out.old) (told K.written K.faults out.new)) result }
+        (engine_run options.now engine.old (P.world places.old) (P.world places.new) (told K.written K.faults K.late out.old) (told K.written K.faults K.late out.new)) result }
 {
     let mut line = Vec::new(alloc);
     let mut cleared = 0;

@@ -16,6 +16,8 @@ impl Sink for NoRoom {
 
     ghost faults = { λ sink. 0 };
 
+    ghost late = { λ sink. 0 };
+
     fn write(&mut self, _piece: &[u8]) -> Result<usize, PortFault> {
         Err(PortFault::NoMemory)
     }

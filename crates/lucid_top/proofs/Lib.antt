@@ -2,6 +2,7 @@ pub mod Common
 pub mod Counting
 pub mod Naming
 pub mod Reaching
+pub mod NamesAsked
 pub mod Refusing
 pub mod Sources
 pub mod Ending

@@ -1,17 +1,20 @@
 -- From how a call comes to its outcome to the clauses of the command.
-use Rattle.lucid_top.proofs.Common.{option_map, all_bytes, ◌≡◌, ℕ, ◌<◌, ◌≤◌, Bool, true, false, nat_lt, List, [], length, Some, None, Err, ◌⊎◌, inl, inr, refl, ap, subst, arith, Contents, PlainWords, Told, Refusal, Status, Outcome, Call, form_of, is_certificate, time_asked, Asks, IsWriting, IsTextFor, asks_for, IsRun, by_words, by_text, by_flat, by_names, by_missing, by_judging, by_given, first_place, run_places, run_of, unread_place, view_of, RanSo, ReadsSource, most_read, WritesNothing, TellsFiles, ReadFails, ComesOnly, MeetsClauses, IsMade, reaches_nothing, reaches_source, reaches_inputs, Rests, Comes, ltb-true, ChecksTree, ConsumesNothing, EndsCheck, EndsMaking, HasFiles, IsCheck, IsMaking, IsWellMade, MakesTree, MayCheck, Task, ReadsCertificate, Run, before_checking, before_making, by_certificate, by_checking, by_making, certificate_of, first_input, reaches_certificate, reaches_checked, reaches_made}
+use Rattle.lucid_top.proofs.Common.{◌++◌, WantsInputs, inputs_in, files_for, by_tree, task_of, option_map, all_bytes, ◌≡◌, ℕ, ◌<◌, ◌≤◌, Bool, true, false, nat_lt, List, [], length, Some, None, Err, ◌⊎◌, inl, inr, refl, ap, subst, arith, Contents, PlainWords, Told, Refusal, Status, Outcome, Call, form_of, is_certificate, time_asked, Asks, IsWriting, IsTextFor, asks_for, IsRun, by_words, by_text, by_flat, by_names, by_missing, by_judging, by_given, first_place, run_places, run_of, unread_place, view_of, RanSo, ReadsSource, most_read, WritesNothing, TellsFiles, ReadFails, ComesOnly, MeetsClauses, IsMade, reaches_nothing, reaches_source, reaches_inputs, Rests, Comes, ltb-true, ChecksTree, ConsumesNothing, EndsCheck, EndsMaking, HasFiles, IsCheck, IsMaking, IsWellMade, MakesTree, MayCheck, Task, ReadsCertificate, Run, before_checking, before_making, by_certificate, by_checking, by_making, certificate_of, first_input, reaches_certificate, reaches_checked, reaches_made}
 use Rattle.std.proofs.Common.{cond}
 use Rattle.lucid_ports.specs.declared.run.RunFault.TheVariants as fault
 use Rattle.lucid_report.specs.declared.refusal.Refusal.TheVariants as refusal
 use Rattle.lucid_report.specs.declared.stop.Stop.TheVariants as stop
 use Rattle.lucid_report.specs.Telling.{Tells}
 use Rattle.lucid_top.specs.Stages.{Refuses}
-use Rattle.lucid_top.specs.Clauses.{IsRefusedSo, Writes, TellsFaults, IsEvaluated, places_before}
+use Rattle.lucid_top.specs.Clauses.{IsRefusedSo, Writes, TellsFaults, EndsAtFaults, IsEvaluated, places_before}
 use Rattle.lucid_top.specs.Runs.{under, GivesBytes}
-use Rattle.lucid_top.specs.Coming.{AreJustReached, Reaches, StopsEarly, EndsRun, EndsWriting, Checked, Made}
+use Rattle.lucid_top.specs.Names.{source_names, certificate_names, names_for, AsksFront}
+use Rattle.lucid_top.specs.Stages.{HasProgram}
+use Rattle.lucid_top.specs.Coming.{AsksSo, asks_source, asks_inputs, AreJustReached, Reaches, StopsEarly, EndsRun, EndsWriting, Checked, Made}
 use Rattle.lucid_top.proofs.RunEnds.{in_range}
 use Rattle.lucid_top.proofs.Begun.{ran_with, never_read, never_made, same_contents}
-use Rattle.lucid_top.proofs.OneCall.{OneVerdict, same_words, not_asked, run_or_text, run_or_certificate, certificate_or_text, made_or_checked, asks_in, same_tree, same_inputs, same_run, same_text, same_certificate, same_why, one_refusal, run_not_refused, run_not_stopped, text_not_refused, may_refused, check_not_refused, making_not_refused, OfCertificate}
+use Rattle.lucid_top.proofs.NamesAsked.{front_more}
+use Rattle.lucid_top.proofs.OneCall.{OneVerdict, same_words, not_asked, run_or_text, wanted_or_text, run_or_certificate, certificate_or_text, made_or_checked, asks_in, same_tree, same_inputs, same_run, same_text, same_certificate, same_why, one_refusal, run_not_refused, run_not_stopped, text_not_refused, may_refused, check_not_refused, making_not_refused, OfCertificate}
 
 -- how a call comes to its outcome
 abbrev pub How : Call → Outcome → Type 0
@@ -297,6 +300,25 @@ module _ (l : OneVerdict) (c : Call) (told : TellsFiles c) where
   evaluated_reaches r o is (inr (inr (inr (inr made)))) = absurd (run_or_certificate r made.0 refl)
   evaluated_reaches r _ is (inl early) = absurd early.0
 
+  -- the names that are asked for, of a program with these inputs
+  names_so : (p : HasProgram c) → WantsInputs p → AsksSo c (asks_for p).words → AsksFront (names_for (asks_for p).words (inputs_in p)) c.before c.after
+  names_so p wants (asks_source front) =
+      front_more (source_names (asks_for p).words.source)
+      (certificate_names (task_of (asks_for p).words) (asks_for p).words.check ++ files_for (inputs_in p) (asks_for p).words.given) c.before c.after front
+  names_so p wants (asks_inputs q made wants' front) =
+      subst (λ free. AsksFront (names_for (asks_for p).words free) c.before c.after) (same_inputs l c told q p wants' wants made) front
+
+-- where a text is written
+text_names : (c : Call) (w : PlainWords) → IsWriting c → AsksSo c w → AsksFront (source_names w.source) c.before c.after
+text_names c w x (asks_source front) = front
+text_names c w x (asks_inputs p made wants front) = absurd (wanted_or_text p wants x)
+
+-- of any program
+some_names : (c : Call) (w : PlainWords) → AsksSo c w → (free : List (List ℕ)) × AsksFront (names_for w free) c.before c.after
+some_names c w (asks_source front) =
+    ([], front_more (source_names w.source) (certificate_names (task_of w) w.check ++ files_for [] w.given) c.before c.after front)
+some_names c w (asks_inputs p made wants front) = (inputs_in p, front)
+
 -- a read fault is counted
 counted : (c : Call) (o : Outcome) → ComesOnly c o → (ReadFails c → ⊥) → o ≡ Err stop.ReadFault → ⊥
 counted c o only reads is = reads (subst (ComesOnly c) is only)
@@ -321,12 +343,15 @@ silent_or c o (inr (inr (inr (inr made)))) = inr (inr (inr (inr made.0)))
 
 pub meets : OneVerdict → (c : Call) (before after : Told) (o : Outcome) (s : Status) → Comes c o
     → ((a : Asks c) → ReadsSource (most_read (form_of a.words)) a.words.source c.after)
-    → ((a : Asks c) → ReadsCertificate a.words c.after) → TellsFaults c o → Tells o s before after → MeetsClauses c before after s
-meets l c before after o s h within certificate faults tells = record {
+    → ((a : Asks c) → ReadsCertificate a.words c.after) → ((w : PlainWords) → c.asked ≡ Some w → AsksSo c w)
+    → (c.asked ≡ None → c.after.asked ≡ c.before.asked) → TellsFaults c o → EndsAtFaults c before after → Tells o s before after
+    → MeetsClauses c before after s
+meets l c before after o s h within certificate asks unasked faults late tells = record {
   outcome = o;
   report = tells;
   comes_only = h.only;
   tells_faults = faults;
+  late = late;
   refused_where = record {
     usage = λ none. stopped_by_words c o refusal.Usage (λ a. not_asked a none) (only_usage c none) h.how;
     first = λ why refused told reads. first l c told o why refused (counted c o h.only reads) h.how;
@@ -346,6 +371,14 @@ meets l c before after o s h within certificate faults tells = record {
     checked = λ k told. check_reaches l c told k o h.how;
     made = λ m told. made_reaches l c told m o h.how;
     evaluated = λ r told is. evaluated_reaches l c told r o is h.how;
+  };
+  names = record {
+    unasked = unasked;
+    asked = λ a. some_names c a.words (asks a.words a.read);
+    written = λ a x. text_names c a.words x (asks a.words a.read);
+    run = λ r told. names_so l c told r.program (inl r.task) (asks (asks_for r.program).words (asks_for r.program).read);
+    checked = λ k told. names_so l c told (by_tree k.may.names) (inr (ap is_certificate k.may.task)) (asks (asks_in k.may).words (asks_in k.may).read);
+    made = λ m told. names_so l c told (by_tree m.names) (inr (ap is_certificate m.task)) (asks (asks_in m).words (asks_in m).read);
   };
   source_within = within;
   certificate_within = certificate;

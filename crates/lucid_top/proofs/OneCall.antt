@@ -118,10 +118,13 @@ other_task p a t asked is none =
     let there : wants (task_of a.words) ≡ wants t = ap wants is in absurd (cc (some, there, none))
 
 -- a run is neither a text nor a certificate, and a certificate is no text
+pub wanted_or_text : {c : Call} (p : HasProgram c) → WantsInputs p → IsWriting c → ⊥
+wanted_or_text p w (prints t is) = other_task p t.source.asks task.Print w is refl
+wanted_or_text p w (judges n is judged) = other_task p n.program.source.asks task.Cycles w is refl
+wanted_or_text p w (flattens n is) = other_task p n.program.source.asks task.Flat w is refl
+
 pub run_or_text : {c : Call} → IsRun c → IsWriting c → ⊥
-run_or_text r (prints t is) = other_task r.program t.source.asks task.Print (inl r.task) is refl
-run_or_text r (judges n is judged) = other_task r.program n.program.source.asks task.Cycles (inl r.task) is refl
-run_or_text r (flattens n is) = other_task r.program n.program.source.asks task.Flat (inl r.task) is refl
+run_or_text r x = wanted_or_text r.program (inl r.task) x
 
 -- the words of a certificate
 abbrev pub asks_in : {c : Call} {t : Task} → HasFiles c t → Asks c

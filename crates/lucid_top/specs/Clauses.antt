@@ -1,11 +1,11 @@
 -- The clauses of the command: what holds of a call and its status.
 use Rattle.std.specs.Prelude.{◌≡◌, ℕ, ◌≤◌, ◌⊎◌, List, length, Some, None, Ok, Err, false, slice_get}
-use Rattle.lucid_ports.specs.Faults.{Rises}
+use Rattle.lucid_ports.specs.Faults.{Rises, AsksNoneLate}
 use Rattle.lucid_words.specs.Asked.{PlainWords}
 use Rattle.lucid_words.specs.Plain.{file}
 use Rattle.lucid_ports.specs.World.{Contents}
 use Rattle.lucid_session.specs.Runs.{RunView, IsInput}
-use Rattle.lucid_ports.specs.Told.{Told}
+use Rattle.lucid_ports.specs.Told.{Told, WritesNoneLate}
 use Rattle.lucid_top.specs.declared.task.Task.TheVariants as task
 use Rattle.lucid_report.specs.declared.refusal.Refusal.{Refusal}
 use Rattle.lucid_report.specs.declared.refusal.Refusal.TheVariants as refusal
@@ -18,6 +18,7 @@ use Rattle.lucid_top.specs.Tasks.{task_of, form_of, time_asked, wants_figures}
 use Rattle.lucid_report.specs.Telling.{Tells}
 use Rattle.lucid_top.specs.Writing.{WritesSome, WritesSomeFront}
 use Rattle.lucid_top.specs.Sources.{IsTold, first_place}
+use Rattle.lucid_top.specs.Names.{source_names, names_for, AsksFront}
 use Rattle.lucid_top.specs.Stages.{Asks, IsWriting, IsTextFor, IsRun, IsMaking, IsCheck, Refuses, by_certificate}
 use Rattle.lucid_top.specs.Places.{CountsNoRead, CountsNoWrite, ReadsSource, ReadsCertificate, most_read}
 use Rattle.lucid_top.specs.Runs.{most_places, first_input, run_places, run_of, certificate_of, view_of, under, RanSo, GivesBytes}
@@ -96,6 +97,12 @@ pub record TellsFaults (c : Call) (o : Outcome) : Type 0 where
   pub reads : CountsNoRead o c.before c.after
   pub writes : CountsNoWrite o c.out_before.faults c.out_after.faults
 
+-- A fault ends it: after one nothing is asked of the places, nothing is written to the output, and nothing to the report.
+pub record EndsAtFaults (c : Call) (report_before report_after : Told) : Type 0 where
+  pub reads : AsksNoneLate c.before c.after
+  pub writes : WritesNoneLate c.out_before c.out_after
+  pub report : WritesNoneLate report_before report_after
+
 -- the outcome of a run that came to evaluate its program
 abbrev pub IsEvaluated : Outcome → Type 0
 IsEvaluated (Ok (done.Ran summary stats)) = Unit {0}
@@ -121,6 +128,17 @@ pub record ReachesOnly (c : Call) (o : Outcome) : Type 0 where
   pub made : (m : IsMaking c) → TellsFiles c → c.after.reached ≤ run_places (certificate_of m)
   pub evaluated : (r : IsRun c) → TellsFiles c → IsEvaluated o → c.after.reached ≡ run_places (run_of r)
 
+-- The names that are asked for are, in order, a front of these: that of the source, that of a certificate that is checked, and the files of the
+-- inputs. None is asked for where the words are refused, and that of the source alone where a text is written. In a run, a check or a making of a
+-- certificate the inputs are those of the program.
+pub record AsksNames (c : Call) : Type 0 where
+  pub unasked : c.asked ≡ None → c.after.asked ≡ c.before.asked
+  pub asked : (a : Asks c) → (free : List (List ℕ)) × AsksFront (names_for a.words free) c.before c.after
+  pub written : (a : Asks c) → IsWriting c → AsksFront (source_names a.words.source) c.before c.after
+  pub run : (r : IsRun c) → TellsFiles c → AsksFront (names_for (run_of r).words (run_of r).inputs) c.before c.after
+  pub checked : (k : IsCheck c) → TellsFiles c → AsksFront (names_for (certificate_of k.may).words (certificate_of k.may).inputs) c.before c.after
+  pub made : (m : IsMaking c) → TellsFiles c → AsksFront (names_for (certificate_of m).words (certificate_of m).inputs) c.before c.after
+
 -- The clauses, of a call, what its report tells before and after, and its status. They are said of one outcome, of which the status and
 -- the line of the report are told.
 pub record MeetsClauses (c : Call) (report_before report_after : Told) (s : Status) : Type 0 where
@@ -129,6 +147,8 @@ pub record MeetsClauses (c : Call) (report_before report_after : Told) (s : Stat
   -- When each outcome comes; that a fault comes wherever a call failed, and a refusal wherever it is the first.
   pub comes_only : ComesOnly c outcome
   pub tells_faults : TellsFaults c outcome
+  -- No failed call is tried again or passed over.
+  pub late : EndsAtFaults c report_before report_after
   pub refused_where : RefusedWhere c outcome
   -- Nothing is written but by a run or a check, or where a text or a certificate is asked for.
   pub silent : WritesNothing c ⊎ (IsRun c ⊎ (IsWriting c ⊎ (IsCheck c ⊎ IsMaking c)))
@@ -145,6 +165,8 @@ pub record MeetsClauses (c : Call) (report_before report_after : Told) (s : Stat
   pub made : (m : IsMaking c) → TellsFiles c → EndsMaking m outcome
   -- Only what the stages of the call need is reached, and never more places than a source and its inputs can need.
   pub reaches : ReachesOnly c outcome
+  -- No name is asked for but those.
+  pub names : AsksNames c
   -- Of the source's file no more is consumed than one byte more than a source may have.
   pub source_within : (a : Asks c) → ReadsSource (most_read (form_of a.words)) a.words.source c.after
   -- So it is of the certificate's.

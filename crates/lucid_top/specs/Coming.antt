@@ -1,6 +1,7 @@
 -- How a call comes to its outcome, as its parts say it.
-use Rattle.std.specs.Prelude.{◌≡◌, ◌≢◌, ℕ, ◌<◌, ◌≤◌, ◌⊎◌, ◌-◌, ◌^◌, [], length, Some, Err}
+use Rattle.std.specs.Prelude.{◌≡◌, ◌≢◌, ℕ, ◌<◌, ◌≤◌, ◌⊎◌, ◌-◌, ◌^◌, [], ◌++◌, length, Some, None, Err}
 use Rattle.lucid_ports.specs.World.{World, Contents}
+use Rattle.lucid_ports.specs.Faults.{AsksNoneLate}
 use Rattle.lucid_tree.specs.WellMade.{IsWellMade}
 use Rattle.lucid_words.specs.declared.Words.{Words}
 use Rattle.lucid_words.specs.Asked.{PlainWords, plain_words}
@@ -10,6 +11,7 @@ use Rattle.lucid_report.specs.declared.refusal.Refusal.{Refusal}
 use Rattle.lucid_report.specs.declared.stop.Stop.TheVariants as stop
 use Rattle.lucid_equations.specs.declared.table.Table.{Table}
 use Rattle.lucid_compile.specs.Settled.{table_of as tree_table}
+use Rattle.lucid_ports.specs.Told.{WritesNoneLate}
 use Rattle.lucid_session.specs.Runs.{RunView}
 use Rattle.lucid_report.specs.Status.{Outcome}
 use Rattle.lucid_top.specs.Tasks.{task_of, form_of, time_asked}
@@ -17,12 +19,13 @@ use Rattle.lucid_top.specs.Programs.{beside}
 use Rattle.lucid_top.specs.Tables.{HasSoundTable}
 use Rattle.lucid_top.specs.Places.{KeepsNames, CountsNoRead, CountsNoWrite, ReadsSource, ReadsCertificate, most_read}
 use Rattle.lucid_top.specs.Sources.{first_place}
+use Rattle.lucid_top.specs.Names.{source_names, names_for, AsksFront}
 use Rattle.lucid_top.specs.Checks.{ChecksTree}
 use Rattle.lucid_top.specs.Makes.{MakesTree}
 use Rattle.lucid_top.specs.declared.task.Form.TheVariants as form
 use Rattle.lucid_top.specs.declared.task.Task.TheVariants as task
 use Rattle.lucid_top.specs.Call.{Call}
-use Rattle.lucid_top.specs.Stages.{Asks, IsWriting, IsTextFor, HasProgram, by_tree, by_columns, by_table, columns_named, task_for, program_in, inputs_in, IsRun, IsMaking, MayCheck, IsCheck, HasNames, Refuses, by_words, by_text, by_flat, by_names, by_missing, by_judging, by_given, by_certificate}
+use Rattle.lucid_top.specs.Stages.{Asks, IsWriting, IsTextFor, WantsInputs, HasProgram, by_tree, by_columns, by_table, columns_named, task_for, program_in, inputs_in, IsRun, IsMaking, MayCheck, IsCheck, HasNames, Refuses, by_words, by_text, by_flat, by_names, by_missing, by_judging, by_given, by_certificate}
 use Rattle.lucid_top.specs.Runs.{Run, most_places, first_input, run_places, run_of, certificate_of, unread_place, view_of, under, table_program, RanSo, GivesBytes}
 use Rattle.lucid_top.specs.Clauses.{WritesNothing, ComesOnly, Writes}
 
@@ -105,14 +108,23 @@ pub record MayBegin (words : Words) (t : Task) (v : World) : Type 0 where
   pub task : task_of (plain_words words) ≡ t
   pub none : v.reached ≡ 0
 
--- What a call does: it comes to its outcome, counts no fault but that of its outcome, and of its source and of a certificate reads no more
--- than may be read.
+-- It asks for a front of the names that it may: that of the source alone; or of a program whose inputs are wanted, also those behind it.
+pub data AsksSo (c : Call) (w : PlainWords) : Type 0 where
+  asks_source : AsksFront (source_names w.source) c.before c.after → AsksSo c w
+  asks_inputs : (p : HasProgram c) → IsMade p → WantsInputs p → AsksFront (names_for w (inputs_in p)) c.before c.after → AsksSo c w
+
+-- What a call does: it comes to its outcome, counts no fault but that of its outcome, asks for nothing after a fault, and of its source and of a
+-- certificate reads no more than may be read.
 pub record Does (c : Call) (o : Outcome) : Type 0 where
   pub comes : Comes c o
   pub counts_no_read : CountsNoRead o c.before c.after
   pub counts_no_write : CountsNoWrite o c.out_before.faults c.out_after.faults
+  pub read_late : AsksNoneLate c.before c.after
+  pub write_late : WritesNoneLate c.out_before c.out_after
   pub within : (w : PlainWords) → c.asked ≡ Some w → ReadsSource (most_read (form_of w)) w.source c.after
   pub certificate : (w : PlainWords) → c.asked ≡ Some w → ReadsCertificate w c.after
+  pub asks : (w : PlainWords) → c.asked ≡ Some w → AsksSo c w
+  pub unasked : c.asked ≡ None → c.after.asked ≡ c.before.asked
 
 -- A call is about to run a table, its source being read: it has a program with the table's inputs, its words ask for that, and runs of the
 -- table as they have it are runs of the program.

@@ -9,6 +9,7 @@ pub mod Policies
 pub mod Call
 pub mod Sources
 pub mod Certificates
+pub mod Names
 pub mod Stages
 pub mod Places
 pub mod Runs

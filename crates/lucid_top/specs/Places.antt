@@ -1,7 +1,7 @@
 -- What the places tell while the source is read and the inputs are reached.
-use Rattle.std.specs.Prelude.{◌≡◌, ℕ, ◌+◌, ◌<◌, ◌≤◌, ◌⊎◌, List, length, Option, Some, take, IfSome, Result, OnOk, IsErrOf, slice_get}
+use Rattle.std.specs.Prelude.{◌≡◌, ℕ, ◌+◌, ◌<◌, ◌≤◌, ◌⊎◌, List, ◌++◌, length, Option, Some, take, IfSome, Result, OnOk, IsErrOf, slice_get}
 use Rattle.lucid_ports.specs.World.{World, IsFresh}
-use Rattle.lucid_ports.specs.Faults.{Rises, CountsNoFaultUnless}
+use Rattle.lucid_ports.specs.Faults.{Rises, AsksNoneLate, CountsNoFaultUnless}
 use Rattle.lucid_ports.specs.declared.fault.PortFault.{PortFault}
 use Rattle.lucid_ports.specs.declared.fault.PortFault.TheVariants.{Failed, NoMemory}
 use Rattle.lucid_make.specs.Source.{made_source}
@@ -19,6 +19,7 @@ use Rattle.lucid_top.specs.declared.task.Form.{Form}
 use Rattle.lucid_top.specs.declared.task.Form.TheVariants as form
 use Rattle.lucid_top.specs.Flat.{most_flat_bytes, SpellsTable}
 use Rattle.lucid_top.specs.Sources.{IsSource, first_place}
+use Rattle.lucid_top.specs.Names.{source_names, AsksFront}
 use Rattle.lucid_top.specs.Certificates.{most_certificate_bytes}
 use Rattle.lucid_words.specs.Asked.{PlainWords}
 use Rattle.lucid_top.specs.declared.task.Task.TheVariants as task
@@ -110,14 +111,17 @@ ReadsSource most (made n) w = Unit {0}
 abbrev pub ReadsCertificate : PlainWords → World → Type 0
 ReadsCertificate w v = task_of w ≡ task.Check → ReadsPlace (most_certificate_bytes + 1) (first_place w.source) v
 
--- How the source is read, whatever comes of it: at most its place is reached, at most so many bytes of it are read, no name holds anything
--- else, and a fault is counted only where it is told.
+-- How the source is read, whatever comes of it: at most its name is asked for and its place reached, at most so many bytes of it are read, no
+-- name holds anything else, a fault is counted only where it is told, and nothing is asked after one.
 pub record HasRead {T : Type 0} (most : ℕ) (source : PlainSource) (old new : World) (result : Result T Stop) : Type 0 where
   pub reached : OnOk result (new.reached ≡ first_place source)
   pub few : new.reached ≤ first_place source
+  pub asks : AsksFront (source_names source) old new
+  pub asked : OnOk result (new.asked ≡ old.asked ++ source_names source)
   pub within : ReadsSource most source new
   pub keeps : KeepsNames old new
   pub counts_no_read : CountsNoRead result old new
+  pub late : AsksNoneLate old new
 
 -- no place that was reached changes
 abbrev pub AreKept : (old new : World) → Type 0
@@ -131,6 +135,7 @@ pub record HasReached {T : Type 0} (most : ℕ) (old new : World) (result : Resu
   pub within : ReadsPlace most old.reached new
   pub keeps : KeepsNames old new
   pub counts_no_read : CountsNoRead result old new
+  pub late : AsksNoneLate old new
 
 -- Each of the places that are newly reached, in the order of the files, is a fresh place of its file.
 abbrev pub AreFresh : (files : List (List ℕ)) → (old new : World) → Type 0

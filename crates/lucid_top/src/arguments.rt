@@ -31,8 +31,8 @@ pub fn lucid_from_arguments<P: Places, K: Sink, E: Sink>(
 ) -> Status
     requires { (P.world places.old).reached ≡ 0 }
     ensures { MeetsClauses
-        (call (words_asked (map string_bytes (drop 1 arguments.now))) (P.world places.old) (P.world places.new) (told K.written K.faults out.old) (told K.written K.faults out.new))
-        (told E.written E.faults report.old) (told E.written E.faults report.new) result }
+        (call (words_asked (map string_bytes (drop 1 arguments.now))) (P.world places.old) (P.world places.new) (told K.written K.faults K.late out.old) (told K.written K.faults K.late out.new))
+        (told E.written E.faults E.late report.old) (told E.written E.faults E.late report.new) result }
 {
     lucid(alloc, words_of(arguments), places, out, report)
 }

@@ -1,7 +1,8 @@
 //! Checking a certificate of a program.
-ghost use Rattle.std.specs.Prelude.{◌≡◌, ◌≢◌, ◌≤◌, ◌<◌, ◌+◌, ◌⊎◌, ℕ, AllPairs, length, IfOk, IfErr};
+ghost use Rattle.std.specs.Prelude.{◌≡◌, ◌≢◌, ◌≤◌, ◌<◌, ◌+◌, ◌⊎◌, ◌∷◌, ◌++◌, [], ℕ, AllPairs, length, IfOk, IfErr, OnOk};
 ghost use Rattle.std.specs.String.{string_bytes};
 ghost use Rattle.lucid_tree.specs.Members.{In};
+ghost use Rattle.lucid_ports.specs.Faults.{AsksNoneLate, EndsAtItsFault};
 ghost use Rattle.lucid_ports.specs.World.{World};
 ghost use Rattle.lucid_equations.specs.Programs.{table_of};
 ghost use Rattle.lucid_ports.specs.Told.{told};
@@ -11,6 +12,7 @@ ghost use Rattle.lucid_words.specs.Plain.{file};
 ghost use Rattle.lucid_cert.specs.CheckReads.{OnTooLarge};
 ghost use Rattle.lucid_top.specs.Certificates.{most_certificate_bytes, HoldsCertificate, RefusesCertificate, HeldCertificate};
 ghost use Rattle.lucid_top.specs.Checks.{IsLastLine, Checks, CheckComesOnly, IsCheckStop};
+ghost use Rattle.lucid_top.specs.Names.{AsksFront};
 ghost use Rattle.lucid_top.specs.Places.{AreUnread, CountsNoRead, CountsNoWrite, HasReached, IsSourceStop};
 ghost use Rattle.lucid_report.specs.Refusals.{IsRefusalOf};
 ghost use Rattle.lucid_top.specs.Runs.{viewed};
@@ -52,6 +54,8 @@ pub fn read_certificate<P: Places>(alloc: Global, name: &str, places: &mut P) ->
     requires { (P.world places.old).reached < 2000000 }
     ensures held { IfOk result (HeldCertificate name.now (P.world places.old)) }
     ensures reading { HasReached (most_certificate_bytes + 1) (P.world places.old) (P.world places.new) result }
+    ensures asks { AsksFront (name.now ∷ []) (P.world places.old) (P.world places.new) }
+    ensures asked { OnOk result ((P.world places.new).asked ≡ (P.world places.old).asked ++ name.now ∷ []) }
     ensures stopped { IfErr result (IsSourceStop RefusesCertificate (file name.now) (P.world places.old) (P.world places.new)) }
 {
     let bytes = read_certificate_file(alloc, name, PAST_CERTIFICATE, places)?;
@@ -74,8 +78,9 @@ fn check_stop(inputs: &[Name], fault: CheckFault) -> Stop
 // Writes the value and the time of the last judgment.
 fn write_last<K: Sink>(alloc: Global, why: &Why, out: &mut K) -> Result<Done, Stop>
     requires { 0 < length why.now.judgments }
-    ensures writes { WritesOnly (IsLastLine why.now) (told K.written K.faults out.old) (told K.written K.faults out.new) result }
+    ensures writes { WritesOnly (IsLastLine why.now) (told K.written K.faults K.late out.old) (told K.written K.faults K.late out.new) result }
     ensures counts_no_write { CountsNoWrite result (K.faults out.old) (K.faults out.new) }
+    ensures late { EndsAtItsFault (K.faults out.old) (K.late out.old) (K.late out.new) }
 {
     let judgments = why.judgments.items();
     let last = &judgments[judgments.len() - 1];
@@ -104,14 +109,17 @@ pub fn check_program<P: Places, K: Sink>(
     requires differ { AllPairs (λ a b. a ≢ b) numbers.items }
     requires unread { AreUnread numbers.items (P.world places.old) }
     ensures checks { (w : PlainWords) → Checks (table_of program.now) (table_stream (table_of program.now)) why.now
-        (viewed w names.now numbers.items (P.world places.old) (P.world places.new) (told K.written K.faults out.old) (told K.written K.faults out.new))
+        (viewed w names.now numbers.items (P.world places.old) (P.world places.new) (told K.written K.faults K.late out.old) (told K.written K.faults K.late out.new))
         result }
     ensures comes_only { CheckComesOnly names.now (P.world places.old).faults (P.world places.new).faults (K.faults out.old) (K.faults out.new) result }
     ensures reached { (P.world places.new).reached ≡ (P.world places.old).reached }
+    ensures asked { (P.world places.new).asked ≡ (P.world places.old).asked }
     ensures others { (k : ℕ) → In k numbers.items ⊎ ((P.world places.new).place k ≡ (P.world places.old).place k) }
     ensures faults { (P.world places.old).faults ≤ (P.world places.new).faults }
     ensures counts_no_read { CountsNoRead result (P.world places.old) (P.world places.new) }
     ensures counts_no_write { CountsNoWrite result (K.faults out.old) (K.faults out.new) }
+    ensures read_late { AsksNoneLate (P.world places.old) (P.world places.new) }
+    ensures write_late { EndsAtItsFault (K.faults out.old) (K.late out.old) (K.late out.new) }
 {
     what_follows_is_meant();
     fresh_fits();

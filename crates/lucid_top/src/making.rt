@@ -1,6 +1,7 @@
 //! Making a certificate of a program's value.
 ghost use Rattle.std.specs.Prelude.{◌≡◌, ◌≢◌, ◌≤◌, ◌<◌, ◌-◌, ◌^◌, ◌⊎◌, ℕ, AllPairs, length};
 ghost use Rattle.lucid_tree.specs.Members.{In};
+ghost use Rattle.lucid_ports.specs.Faults.{AsksNoneLate, EndsAtItsFault};
 ghost use Rattle.lucid_ports.specs.World.{World};
 ghost use Rattle.lucid_equations.specs.Programs.{table_of};
 ghost use Rattle.lucid_demand_steps.specs.Faults.{OnTooLarge};
@@ -60,8 +61,9 @@ fn making_stop(inputs: &[Name], time: u64, fault: DemandFault) -> Stop
 fn write_why<K: Sink>(alloc: Global, why: &Why, out: &mut K) -> Result<Done, Stop>
     requires shown { MayBeShown why.now }
     requires some { 0 < length why.now.judgments }
-    ensures writes { WritesOnly (λ text. IsTextOf text why.now) (told K.written K.faults out.old) (told K.written K.faults out.new) result }
+    ensures writes { WritesOnly (λ text. IsTextOf text why.now) (told K.written K.faults K.late out.old) (told K.written K.faults K.late out.new) result }
     ensures counts_no_write { CountsNoWrite result (K.faults out.old) (K.faults out.new) }
+    ensures late { EndsAtItsFault (K.faults out.old) (K.late out.old) (K.late out.new) }
 {
     let mut text = Vec::new(alloc);
     show_why(alloc, why, &mut text)?;
@@ -85,14 +87,17 @@ pub fn make_program<P: Places, K: Sink>(
     requires differ { AllPairs (λ a b. a ≢ b) numbers.items }
     requires unread { AreUnread numbers.items (P.world places.old) }
     ensures makes { Makes (table_of program.now) (table_stream (table_of program.now))
-        (viewed (plain_words words.now) names.now numbers.items (P.world places.old) (P.world places.new) (told K.written K.faults out.old) (told K.written K.faults out.new))
+        (viewed (plain_words words.now) names.now numbers.items (P.world places.old) (P.world places.new) (told K.written K.faults K.late out.old) (told K.written K.faults K.late out.new))
         (time_asked (plain_words words.now)) result }
     ensures comes_only { MakingComesOnly names.now (time_asked (plain_words words.now)) (P.world places.old).faults (P.world places.new).faults (K.faults out.old) (K.faults out.new) result }
     ensures reached { (P.world places.new).reached ≡ (P.world places.old).reached }
+    ensures asked { (P.world places.new).asked ≡ (P.world places.old).asked }
     ensures others { (k : ℕ) → In k numbers.items ⊎ ((P.world places.new).place k ≡ (P.world places.old).place k) }
     ensures faults { (P.world places.old).faults ≤ (P.world places.new).faults }
     ensures counts_no_read { CountsNoRead result (P.world places.old) (P.world places.new) }
     ensures counts_no_write { CountsNoWrite result (K.faults out.old) (K.faults out.new) }
+    ensures read_late { AsksNoneLate (P.world places.old) (P.world places.new) }
+    ensures write_late { EndsAtItsFault (K.faults out.old) (K.late out.old) (K.late out.new) }
 {
     what_follows_is_meant();
     fresh_fits();

@@ -1,6 +1,7 @@
 //! Running a program.
 ghost use Rattle.std.specs.Prelude.{◌≡◌, ◌≢◌, ◌≤◌, ◌<◌, ◌⊎◌, ℕ, AllPairs, length, map, option_map, IfOk};
 ghost use Rattle.lucid_tree.specs.Members.{In};
+ghost use Rattle.lucid_ports.specs.Faults.{AsksNoneLate, EndsAtItsFault};
 ghost use Rattle.lucid_ports.specs.Limits.{most_asked};
 ghost use Rattle.lucid_ports.specs.World.{World};
 ghost use Rattle.lucid_equations.specs.Programs.{table_of};
@@ -119,7 +120,7 @@ fn run_streams<R: Retire, S: Pick, P: Places, K: Sink>(
     requires streams { length (streams inputs) ≡ length (table_of program).inputs }
     requires askable { AreAskable (streams inputs) (P.world places.old) }
     ensures { Promises (program_subject (table_program (plain_words words.now) (table_of program))) (program_counted (table_program (plain_words words.now) (table_of program)))
-        (run_view words.now.options (policy_view R.keeps R.empties R.most policy) (table_of program) inputs (P.world places.old) (P.world places.new) (told K.written K.faults out.old) (told K.written K.faults out.new)) result }
+        (run_view words.now.options (policy_view R.keeps R.empties R.most policy) (table_of program) inputs (P.world places.old) (P.world places.new) (told K.written K.faults K.late out.old) (told K.written K.faults K.late out.new)) result }
 {
     let options = &words.options;
     if words.columns.is_empty() {
@@ -150,15 +151,18 @@ pub fn run_program<R: Retire, S: Pick, P: Places, K: Sink>(
     requires differ { AllPairs (λ a b. a ≢ b) numbers.items }
     requires unread { AreUnread numbers.items (P.world places.old) }
     ensures ran { RanSo (table_program (plain_words words.now) (table_of program))
-        (under (policy_view R.keeps R.empties R.most policy) (viewed (plain_words words.now) names.now numbers.items (P.world places.old) (P.world places.new) (told K.written K.faults out.old) (told K.written K.faults out.new)))
+        (under (policy_view R.keeps R.empties R.most policy) (viewed (plain_words words.now) names.now numbers.items (P.world places.old) (P.world places.new) (told K.written K.faults K.late out.old) (told K.written K.faults K.late out.new)))
         result }
     ensures comes_only { RunComesOnly (policy_view R.keeps R.empties R.most policy) (plain_words words.now) names.now (P.world places.old).faults (P.world places.new).faults (K.faults out.old) (K.faults out.new) result }
     ensures reached { (P.world places.new).reached ≡ (P.world places.old).reached }
+    ensures asked { (P.world places.new).asked ≡ (P.world places.old).asked }
     ensures others { (k : ℕ) → In k numbers.items ⊎ ((P.world places.new).place k ≡ (P.world places.old).place k) }
     ensures bytes { (k : ℕ) → option_map all_bytes ((P.world places.new).place k).contents ≡ option_map all_bytes ((P.world places.old).place k).contents }
     ensures faults { (P.world places.old).faults ≤ (P.world places.new).faults }
     ensures counts_no_read { CountsNoRead result (P.world places.old) (P.world places.new) }
     ensures counts_no_write { CountsNoWrite result (K.faults out.old) (K.faults out.new) }
+    ensures read_late { AsksNoneLate (P.world places.old) (P.world places.new) }
+    ensures write_late { EndsAtItsFault (K.faults out.old) (K.late out.old) (K.late out.new) }
 {
     fresh_fits();
     let inputs = unread_inputs(alloc, numbers)?;

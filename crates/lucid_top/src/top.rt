@@ -1,5 +1,5 @@
 //! The command.
-ghost use Rattle.std.specs.Prelude.{◌≡◌, ◌≢◌, ℕ, ◌+◌, ◌-◌, ◌^◌, ◌<◌, ◌≤◌, All, Some, length, map, IfOk, IfErr, OnOk};
+ghost use Rattle.std.specs.Prelude.{◌≡◌, ◌≢◌, ℕ, ◌∷◌, ◌+◌, ◌-◌, ◌^◌, ◌<◌, ◌≤◌, All, Some, length, map, IfOk, IfErr, OnOk};
 ghost use Rattle.std.specs.String.{string_bytes};
 ghost use Rattle.lucid_scan.specs.Refusals.{most_source_bytes};
 ghost use Rattle.lucid_tree.specs.WellMade.{places as all_places, IsWellMade};
@@ -12,10 +12,13 @@ ghost use Rattle.lucid_ports.specs.Told.{told};
 ghost use Rattle.lucid_top.specs.Tasks.{form_of, task_of};
 ghost use Rattle.lucid_top.specs.Sources.{first_place};
 ghost use Rattle.lucid_scope.specs.Scoped.{scoped_tree, scoped_inputs};
+ghost use Rattle.lucid_ports.specs.Faults.{AsksNoneLate, EndsAtItsFault};
 ghost use Rattle.lucid_ports.specs.Limits.{most_asked};
 ghost use Rattle.lucid_ports.specs.World.{World};
 ghost use Rattle.lucid_equations.specs.Programs.{table_of};
 ghost use Rattle.lucid_top.specs.Judged.{RefusesText, AreResolved};
+ghost use Rattle.lucid_top.specs.Files.{files_for};
+ghost use Rattle.lucid_top.specs.Names.{AsksFront};
 ghost use Rattle.lucid_top.specs.Flat.{most_flat_bytes, RefusesFlat};
 ghost use Rattle.lucid_top.specs.Certificates.{most_certificate_bytes};
 ghost use Rattle.lucid_top.specs.Places.{CountsNoRead, CountsNoWrite, ReadsSource, ReadsPlace, AreKept, HasRead, SpeltBySource, FlatBySource, IsAccepted, IsAcceptedBeside, IsSourceStop, IsProgramStop, IsColumnsStop};
@@ -124,10 +127,13 @@ fn run_inputs<R: Retire, S: Pick, P: Places, K: Sink>(
     requires few { length names.now ≤ most_source_bytes }
     requires one { (P.world places.old).reached ≤ 1 }
     ensures comes { (before : World)
-        → RunsTable (call_under (policy_view R.keeps R.empties R.most policy) (Some (plain_words words.now)) before (P.world places.new) (told K.written K.faults out.old) (told K.written K.faults out.new)) (plain_words words.now) (table_of program) (P.world places.old)
-        → Comes (call_under (policy_view R.keeps R.empties R.most policy) (Some (plain_words words.now)) before (P.world places.new) (told K.written K.faults out.old) (told K.written K.faults out.new)) result }
+        → RunsTable (call_under (policy_view R.keeps R.empties R.most policy) (Some (plain_words words.now)) before (P.world places.new) (told K.written K.faults K.late out.old) (told K.written K.faults K.late out.new)) (plain_words words.now) (table_of program) (P.world places.old)
+        → Comes (call_under (policy_view R.keeps R.empties R.most policy) (Some (plain_words words.now)) before (P.world places.new) (told K.written K.faults K.late out.old) (told K.written K.faults K.late out.new)) result }
+    ensures asks { AsksFront (files_for (table_of program).inputs (plain_words words.now).given) (P.world places.old) (P.world places.new) }
     ensures counts_no_read { CountsNoRead result (P.world places.old) (P.world places.new) }
     ensures counts_no_write { CountsNoWrite result (K.faults out.old) (K.faults out.new) }
+    ensures read_late { AsksNoneLate (P.world places.old) (P.world places.new) }
+    ensures write_late { EndsAtItsFault (K.faults out.old) (K.late out.old) (K.late out.new) }
     ensures within { (most : ℕ) → (P.world places.old).reached ≡ first_place (plain_source words.now.source)
         → ReadsSource most (plain_source words.now.source) (P.world places.old) → ReadsSource most (plain_source words.now.source) (P.world places.new) }
 {
@@ -149,7 +155,7 @@ fn run_tree<R: Retire, S: Pick, P: Places, K: Sink>(
 ) -> Result<Done, Stop>
     requires may { MayBegin words.now Task.Run (P.world places.old) }
     requires form { form_of (plain_words words.now) ≢ Form.Flat }
-    ensures { Does (call_under (policy_view R.keeps R.empties R.most policy) (Some (plain_words words.now)) (P.world places.old) (P.world places.new) (told K.written K.faults out.old) (told K.written K.faults out.new)) result }
+    ensures { Does (call_under (policy_view R.keeps R.empties R.most policy) (Some (plain_words words.now)) (P.world places.old) (P.world places.new) (told K.written K.faults K.late out.old) (told K.written K.faults K.late out.new)) result }
 {
     same_streams_run_alike();
     figures_carry();
@@ -177,7 +183,7 @@ fn columns_task<R: Retire, S: Pick, P: Places, K: Sink>(
     out: &mut K,
 ) -> Result<Done, Stop>
     requires { MayBegin words.now Task.Columns (P.world places.old) }
-    ensures { Does (call_under (policy_view R.keeps R.empties R.most policy) (Some (plain_words words.now)) (P.world places.old) (P.world places.new) (told K.written K.faults out.old) (told K.written K.faults out.new)) result }
+    ensures { Does (call_under (policy_view R.keeps R.empties R.most policy) (Some (plain_words words.now)) (P.world places.old) (P.world places.new) (told K.written K.faults K.late out.old) (told K.written K.faults K.late out.new)) result }
 {
     figures_carry();
     columns_are_spaces();
@@ -206,7 +212,7 @@ fn run_table<R: Retire, S: Pick, P: Places, K: Sink>(
 ) -> Result<Done, Stop>
     requires may { MayBegin words.now Task.Run (P.world places.old) }
     requires form { form_of (plain_words words.now) ≡ Form.Flat }
-    ensures { Does (call_under (policy_view R.keeps R.empties R.most policy) (Some (plain_words words.now)) (P.world places.old) (P.world places.new) (told K.written K.faults out.old) (told K.written K.faults out.new)) result }
+    ensures { Does (call_under (policy_view R.keeps R.empties R.most policy) (Some (plain_words words.now)) (P.world places.old) (P.world places.new) (told K.written K.faults K.late out.old) (told K.written K.faults K.late out.new)) result }
 {
     let program = flat_program(alloc, words, places)?;
     let names = copied_names(alloc, program.table().inputs.items())?;
@@ -223,7 +229,7 @@ fn run_task<R: Retire, S: Pick, P: Places, K: Sink>(
     out: &mut K,
 ) -> Result<Done, Stop>
     requires { MayBegin words.now Task.Run (P.world places.old) }
-    ensures { Does (call_under (policy_view R.keeps R.empties R.most policy) (Some (plain_words words.now)) (P.world places.old) (P.world places.new) (told K.written K.faults out.old) (told K.written K.faults out.new)) result }
+    ensures { Does (call_under (policy_view R.keeps R.empties R.most policy) (Some (plain_words words.now)) (P.world places.old) (P.world places.new) (told K.written K.faults K.late out.old) (told K.written K.faults K.late out.new)) result }
 {
     match Form::of(words) {
         Form::Flat => run_table(alloc, words, policy, pick, places, out),
@@ -239,7 +245,7 @@ fn print_task<P: Places, K: Sink>(
     out: &mut K,
 ) -> Result<Done, Stop>
     requires { MayBegin words.now Task.Print (P.world places.old) }
-    ensures { (policy : PolicyView) → Does (call_under policy (Some (plain_words words.now)) (P.world places.old) (P.world places.new) (told K.written K.faults out.old) (told K.written K.faults out.new)) result }
+    ensures { (policy : PolicyView) → Does (call_under policy (Some (plain_words words.now)) (P.world places.old) (P.world places.new) (told K.written K.faults K.late out.old) (told K.written K.faults K.late out.new)) result }
 {
     let tree = tree_of(alloc, words, places)?;
     print_program(alloc, &tree, out)
@@ -253,7 +259,7 @@ fn cycles_task<P: Places, K: Sink>(
     out: &mut K,
 ) -> Result<Done, Stop>
     requires { MayBegin words.now Task.Cycles (P.world places.old) }
-    ensures { (policy : PolicyView) → Does (call_under policy (Some (plain_words words.now)) (P.world places.old) (P.world places.new) (told K.written K.faults out.old) (told K.written K.faults out.new)) result }
+    ensures { (policy : PolicyView) → Does (call_under policy (Some (plain_words words.now)) (P.world places.old) (P.world places.new) (told K.written K.faults K.late out.old) (told K.written K.faults K.late out.new)) result }
 {
     let scoped = program_of(alloc, words, places)?;
     let judgment = judge(alloc, &scoped)?;
@@ -268,7 +274,7 @@ fn flat_task<P: Places, K: Sink>(
     out: &mut K,
 ) -> Result<Done, Stop>
     requires { MayBegin words.now Task.Flat (P.world places.old) }
-    ensures { (policy : PolicyView) → Does (call_under policy (Some (plain_words words.now)) (P.world places.old) (P.world places.new) (told K.written K.faults out.old) (told K.written K.faults out.new)) result }
+    ensures { (policy : PolicyView) → Does (call_under policy (Some (plain_words words.now)) (P.world places.old) (P.world places.new) (told K.written K.faults K.late out.old) (told K.written K.faults K.late out.new)) result }
 {
     let scoped = program_of(alloc, words, places)?;
     write_flat(alloc, &scoped, out)
@@ -289,10 +295,13 @@ fn make_inputs<P: Places, K: Sink>(
     requires few { length names.now ≤ most_source_bytes }
     requires one { (P.world places.old).reached ≤ 1 }
     ensures comes { (policy : PolicyView) (before : World)
-        → ProvesTable (call_under policy (Some (plain_words words.now)) before (P.world places.new) (told K.written K.faults out.old) (told K.written K.faults out.new)) Task.Why (plain_words words.now) (table_of program.now) (P.world places.old)
-        → Comes (call_under policy (Some (plain_words words.now)) before (P.world places.new) (told K.written K.faults out.old) (told K.written K.faults out.new)) result }
+        → ProvesTable (call_under policy (Some (plain_words words.now)) before (P.world places.new) (told K.written K.faults K.late out.old) (told K.written K.faults K.late out.new)) Task.Why (plain_words words.now) (table_of program.now) (P.world places.old)
+        → Comes (call_under policy (Some (plain_words words.now)) before (P.world places.new) (told K.written K.faults K.late out.old) (told K.written K.faults K.late out.new)) result }
+    ensures asks { AsksFront (files_for (table_of program.now).inputs (plain_words words.now).given) (P.world places.old) (P.world places.new) }
     ensures counts_no_read { CountsNoRead result (P.world places.old) (P.world places.new) }
     ensures counts_no_write { CountsNoWrite result (K.faults out.old) (K.faults out.new) }
+    ensures read_late { AsksNoneLate (P.world places.old) (P.world places.new) }
+    ensures write_late { EndsAtItsFault (K.faults out.old) (K.late out.old) (K.late out.new) }
     ensures others { AreKept (P.world places.old) (P.world places.new) }
 {
     let files = input_files(alloc, names, &words.given)?;
@@ -308,7 +317,7 @@ fn why_task<P: Places, K: Sink>(
     out: &mut K,
 ) -> Result<Done, Stop>
     requires { MayBegin words.now Task.Why (P.world places.old) }
-    ensures { (policy : PolicyView) → Does (call_under policy (Some (plain_words words.now)) (P.world places.old) (P.world places.new) (told K.written K.faults out.old) (told K.written K.faults out.new)) result }
+    ensures { (policy : PolicyView) → Does (call_under policy (Some (plain_words words.now)) (P.world places.old) (P.world places.new) (told K.written K.faults K.late out.old) (told K.written K.faults K.late out.new)) result }
 {
     let scoped = program_of(alloc, words, places)?;
     let program = compile(alloc, &scoped)?;
@@ -329,10 +338,13 @@ fn check_inputs<P: Places, K: Sink>(
     requires few { length names.now ≤ most_source_bytes }
     requires one { (P.world places.old).reached ≤ 1 }
     ensures comes { (policy : PolicyView) (before : World)
-        → ProvesTable (call_under policy (Some (plain_words words.now)) before (P.world places.new) (told K.written K.faults out.old) (told K.written K.faults out.new)) Task.Check (plain_words words.now) (table_of program.now) (P.world places.old)
-        → Comes (call_under policy (Some (plain_words words.now)) before (P.world places.new) (told K.written K.faults out.old) (told K.written K.faults out.new)) result }
+        → ProvesTable (call_under policy (Some (plain_words words.now)) before (P.world places.new) (told K.written K.faults K.late out.old) (told K.written K.faults K.late out.new)) Task.Check (plain_words words.now) (table_of program.now) (P.world places.old)
+        → Comes (call_under policy (Some (plain_words words.now)) before (P.world places.new) (told K.written K.faults K.late out.old) (told K.written K.faults K.late out.new)) result }
+    ensures asks { AsksFront ((plain_words words.now).check ∷ files_for (table_of program.now).inputs (plain_words words.now).given) (P.world places.old) (P.world places.new) }
     ensures counts_no_read { CountsNoRead result (P.world places.old) (P.world places.new) }
     ensures counts_no_write { CountsNoWrite result (K.faults out.old) (K.faults out.new) }
+    ensures read_late { AsksNoneLate (P.world places.old) (P.world places.new) }
+    ensures write_late { EndsAtItsFault (K.faults out.old) (K.late out.old) (K.late out.new) }
     ensures others { AreKept (P.world places.old) (P.world places.new) }
     ensures certificate { ReadsPlace (most_certificate_bytes + 1) (P.world places.old).reached (P.world places.new) }
 {
@@ -350,7 +362,7 @@ fn check_task<P: Places, K: Sink>(
     out: &mut K,
 ) -> Result<Done, Stop>
     requires { MayBegin words.now Task.Check (P.world places.old) }
-    ensures { (policy : PolicyView) → Does (call_under policy (Some (plain_words words.now)) (P.world places.old) (P.world places.new) (told K.written K.faults out.old) (told K.written K.faults out.new)) result }
+    ensures { (policy : PolicyView) → Does (call_under policy (Some (plain_words words.now)) (P.world places.old) (P.world places.new) (told K.written K.faults K.late out.old) (told K.written K.faults K.late out.new)) result }
 {
     let scoped = program_of(alloc, words, places)?;
     let program = compile(alloc, &scoped)?;
@@ -367,7 +379,7 @@ fn do_words<R: Retire, S: Pick, P: Places, K: Sink>(
     out: &mut K,
 ) -> Result<Done, Stop>
     requires { MayBegin words.now (task_of (plain_words words.now)) (P.world places.old) }
-    ensures { Does (call_under (policy_view R.keeps R.empties R.most policy) (Some (plain_words words.now)) (P.world places.old) (P.world places.new) (told K.written K.faults out.old) (told K.written K.faults out.new)) result }
+    ensures { Does (call_under (policy_view R.keeps R.empties R.most policy) (Some (plain_words words.now)) (P.world places.old) (P.world places.new) (told K.written K.faults K.late out.old) (told K.written K.faults K.late out.new)) result }
 {
     match Task::of(words) {
         Task::Run => run_task(alloc, words, policy, pick, places, out),
@@ -388,7 +400,7 @@ fn do_task<P: Places, K: Sink>(
     out: &mut K,
 ) -> Result<Done, Stop>
     requires { (P.world places.old).reached ≡ 0 }
-    ensures { Does (call (words_asked (map string_bytes words.now)) (P.world places.old) (P.world places.new) (told K.written K.faults out.old) (told K.written K.faults out.new)) result }
+    ensures { Does (call (words_asked (map string_bytes words.now)) (P.world places.old) (P.world places.new) (told K.written K.faults K.late out.old) (told K.written K.faults K.late out.new)) result }
 {
     let words = read_words(alloc, words)?;
     let policy = policy_of(alloc, &words)?;
@@ -405,7 +417,7 @@ fn do_task_under<R: Retire, S: Pick, P: Places, K: Sink>(
     out: &mut K,
 ) -> Result<Done, Stop>
     requires { (P.world places.old).reached ≡ 0 }
-    ensures { Does (call_under (policy_view R.keeps R.empties R.most policy) (words_asked (map string_bytes words.now)) (P.world places.old) (P.world places.new) (told K.written K.faults out.old) (told K.written K.faults out.new)) result }
+    ensures { Does (call_under (policy_view R.keeps R.empties R.most policy) (words_asked (map string_bytes words.now)) (P.world places.old) (P.world places.new) (told K.written K.faults K.late out.old) (told K.written K.faults K.late out.new)) result }
 {
     let words = read_words(alloc, words)?;
     do_words(alloc, &words, policy, pick, places, out)
@@ -422,8 +434,8 @@ pub fn lucid<P: Places, K: Sink, E: Sink>(
 ) -> Status
     requires { (P.world places.old).reached ≡ 0 }
     ensures { MeetsClauses
-        (call (words_asked (map string_bytes words.now)) (P.world places.old) (P.world places.new) (told K.written K.faults out.old) (told K.written K.faults out.new))
-        (told E.written E.faults report.old) (told E.written E.faults report.new) result }
+        (call (words_asked (map string_bytes words.now)) (P.world places.old) (P.world places.new) (told K.written K.faults K.late out.old) (told K.written K.faults K.late out.new))
+        (told E.written E.faults E.late report.old) (told E.written E.faults E.late report.new) result }
 {
     one_verdict();
     let outcome = do_task(alloc, words, places, out);
@@ -443,10 +455,10 @@ pub fn lucid_under<R: Retire, S: Pick, P: Places, K: Sink, E: Sink>(
 ) -> Status
     requires { (P.world places.old).reached ≡ 0 }
     ensures clauses { MeetsClauses
-        (call_under (policy_view R.keeps R.empties R.most policy) (words_asked (map string_bytes words.now)) (P.world places.old) (P.world places.new) (told K.written K.faults out.old) (told K.written K.faults out.new))
-        (told E.written E.faults report.old) (told E.written E.faults report.new) result }
+        (call_under (policy_view R.keeps R.empties R.most policy) (words_asked (map string_bytes words.now)) (P.world places.old) (P.world places.new) (told K.written K.faults K.late out.old) (told K.written K.faults K.late out.new))
+        (told E.written E.faults E.late report.old) (told E.written E.faults E.late report.new) result }
     ensures headline { HasHeadline
-        (call_under (policy_view R.keeps R.empties R.most policy) (words_asked (map string_bytes words.now)) (P.world places.old) (P.world places.new) (told K.written K.faults out.old) (told K.written K.faults out.new))
+        (call_under (policy_view R.keeps R.empties R.most policy) (words_asked (map string_bytes words.now)) (P.world places.old) (P.world places.new) (told K.written K.faults K.late out.old) (told K.written K.faults K.late out.new))
         result }
 {
     one_verdict();

@@ -5,6 +5,7 @@ ghost use Rattle.lucid_print.specs.Canonical.{canonical};
 ghost use Rattle.lucid_scan.specs.Refusals.{most_source_bytes};
 ghost use Rattle.lucid_scope.specs.Scoped.{scoped_tree, scoped_inputs};
 ghost use Rattle.lucid_cycles.specs.JudgmentLine.{judgment_line};
+ghost use Rattle.lucid_ports.specs.Faults.{EndsAtItsFault};
 ghost use Rattle.lucid_ports.specs.Told.{told};
 ghost use Rattle.lucid_top.specs.Judged.{AreResolved};
 ghost use Rattle.lucid_top.specs.Places.{CountsNoWrite};
@@ -23,8 +24,9 @@ use std::alloc::Global;
 
 /// Writes the text.
 pub fn write_out<K: Sink>(text: &[u8], out: &mut K) -> Result<Done, Stop>
-    ensures writes { WritesOnly (λ written. written ≡ text.now) (told K.written K.faults out.old) (told K.written K.faults out.new) result }
+    ensures writes { WritesOnly (λ written. written ≡ text.now) (told K.written K.faults K.late out.old) (told K.written K.faults K.late out.new) result }
     ensures counts_no_write { CountsNoWrite result (K.faults out.old) (K.faults out.new) }
+    ensures late { EndsAtItsFault (K.faults out.old) (K.late out.old) (K.late out.new) }
 {
     match write_whole(out, text) {
         Ok(()) => Ok(Done::Written),
@@ -36,8 +38,9 @@ pub fn write_out<K: Sink>(text: &[u8], out: &mut K) -> Result<Done, Stop>
 /// Writes the canonical source.
 pub fn print_program<K: Sink>(alloc: Global, tree: &Tree, out: &mut K) -> Result<Done, Stop>
     requires { IsWellMade tree.now }
-    ensures writes { WritesOnly (λ text. text ≡ canonical tree.now) (told K.written K.faults out.old) (told K.written K.faults out.new) result }
+    ensures writes { WritesOnly (λ text. text ≡ canonical tree.now) (told K.written K.faults K.late out.old) (told K.written K.faults K.late out.new) result }
     ensures counts_no_write { CountsNoWrite result (K.faults out.old) (K.faults out.new) }
+    ensures late { EndsAtItsFault (K.faults out.old) (K.late out.old) (K.late out.new) }
 {
     let mut text = Vec::new(alloc);
     print_tree(alloc, tree, &mut text)?;
@@ -51,8 +54,9 @@ pub fn write_judgment<K: Sink>(
     judgment: &Judgment,
     out: &mut K,
 ) -> Result<Done, Stop>
-    ensures writes { WritesOnly (λ line. line ≡ judgment_line (scoped_tree scoped.now) judgment.now) (told K.written K.faults out.old) (told K.written K.faults out.new) result }
+    ensures writes { WritesOnly (λ line. line ≡ judgment_line (scoped_tree scoped.now) judgment.now) (told K.written K.faults K.late out.old) (told K.written K.faults K.late out.new) result }
     ensures counts_no_write { CountsNoWrite result (K.faults out.old) (K.faults out.new) }
+    ensures late { EndsAtItsFault (K.faults out.old) (K.late out.old) (K.late out.new) }
 {
     let mut line = Vec::new(alloc);
     judgment.show(alloc, scoped, &mut line)?;
@@ -63,8 +67,9 @@ pub fn write_judgment<K: Sink>(
 pub fn write_flat<K: Sink>(alloc: Global, scoped: &Scoped, out: &mut K) -> Result<Done, Stop>
     requires resolved { AreResolved scoped.now }
     requires few { length (scoped_inputs scoped.now) ≤ most_source_bytes }
-    ensures writes { WritesOnly (IsFlatForm (scoped_tree scoped.now)) (told K.written K.faults out.old) (told K.written K.faults out.new) result }
+    ensures writes { WritesOnly (IsFlatForm (scoped_tree scoped.now)) (told K.written K.faults K.late out.old) (told K.written K.faults K.late out.new) result }
     ensures counts_no_write { CountsNoWrite result (K.faults out.old) (K.faults out.new) }
+    ensures late { EndsAtItsFault (K.faults out.old) (K.late out.old) (K.late out.new) }
 {
     let program = compile(alloc, scoped)?;
     let mut text = Vec::new(alloc);

@@ -1,11 +1,11 @@
 //! Each line is one piece that is handed to the sink, and a refused one ends the run.
 ghost use Rattle.std.specs.Prelude.{Some};
-ghost use Rattle.lucid_ports.specs.Sink.{sink_bytes, sink_faults};
+ghost use Rattle.lucid_ports.specs.Sink.{sink_bytes};
 
 use crate::sessions::program_run::{columns_of, options_of, run_of};
 use crate::told::{all_hold, must};
 use crate::trials::Setup;
-use lucid_ports::{MemorySink, PortFault, RunFault, Sink, Summary};
+use lucid_ports::{MemorySink, PortFault, RunFault, Sink, Summary, late_after};
 use lucid_retire::Keep;
 use lucid_schedule::Newest;
 use lucid_test_programs::GROWING_LIST;
@@ -17,17 +17,29 @@ use std::test::Fail;
 struct Pieces {
     sink: MemorySink,
     pieces: Vec<u8>,
+    faults: u64,
+    late: u64,
 }
 
 impl Sink for Pieces {
     ghost written = { λ s. Some (sink_bytes s.sink) };
 
-    ghost faults = { λ s. sink_faults s.sink };
+    ghost faults = { λ s. s.faults };
+
+    ghost late = { λ s. s.late };
 
     fn write(&mut self, piece: &[u8]) -> Result<usize, PortFault> {
+        self.late = late_after(self.faults, self.late);
         self.pieces.extend_from_slice(piece)?;
         self.pieces.push(b'|')?;
-        self.sink.write(piece)
+        match self.sink.write(piece) {
+            Ok(taken) => Ok(taken),
+            Err(PortFault::Failed) => {
+                self.faults = self.faults.saturating_add(1);
+                Err(PortFault::Failed)
+            }
+            Err(PortFault::NoMemory) => Err(PortFault::NoMemory),
+        }
     }
 }
 
@@ -132,6 +144,8 @@ fn is_written(alloc: Global, row: &Row) -> Result<bool, Fail> {
     let mut out = Pieces {
         sink: MemorySink::make(alloc, 100, failures_of(alloc, row)?),
         pieces: Vec::new(alloc),
+        faults: 0,
+        late: 0,
     };
     let answer = answer_of(alloc, row, &mut out)?;
     Ok(all_hold(&[

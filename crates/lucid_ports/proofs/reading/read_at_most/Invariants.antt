@@ -1,4 +1,5 @@
 use Rattle.lucid_ports.proofs.Common.{◌≡◌, ◌≤◌, ◌-◌, take, IfSome, option_map, vec_len, advanced, KeepsOthers}
+use Rattle.lucid_ports.specs.Faults.{AsksNoneLate}
 use Rattle.lucid_ports.proofs.reading.read_at_most.Given as goal
 
 abbrev pub invariant-loop-bytes : goal.invariant-loop-bytes
@@ -11,6 +12,7 @@ invariant-loop-bytes g l =
       contents : (new.place l.place).contents ≡ option_map (advanced (vec_len l.bytes)) (old.place l.place).contents;
       reached : new.reached ≡ old.reached;
       faults : new.faults ≡ old.faults;
+      late : AsksNoneLate old new;
       others : KeepsOthers l.place old new;
     }
 

@@ -12,7 +12,7 @@ loop-time-init g c = record {
 pub returns-in_err-goes_on : goal.returns-in_err-goes_on
 returns-in_err-goes_on g c =
     let z = start_of c.args.options.now (length c.args.is_open.now) c.args.engine.now (g.P.Places.world c.args.places.now)
-    (record { bytes = g.K.Sink.written c.args.out.now; faults = g.K.Sink.faults c.args.out.now }) in
+    (record { bytes = g.K.Sink.written c.args.out.now; faults = g.K.Sink.faults c.args.out.now; late = g.K.Sink.late c.args.out.now }) in
     let going = c.loop-time.invariant.going in
     let p = err_from_is_err_and c.from_residual.result c.from_residual.ensures.1 in
     rw (p.1, p.2)
@@ -22,7 +22,7 @@ returns-in_err-goes_on g c =
 pub returns-then-not-goes_on : goal.returns-then-not-goes_on
 returns-then-not-goes_on g c =
     let z = start_of c.args.options.now (length c.args.is_open.now) c.args.engine.now (g.P.Places.world c.args.places.now)
-    (record { bytes = g.K.Sink.written c.args.out.now; faults = g.K.Sink.faults c.args.out.now }) in
+    (record { bytes = g.K.Sink.written c.args.out.now; faults = g.K.Sink.faults c.args.out.now; late = g.K.Sink.late c.args.out.now }) in
     let going = c.loop-time.invariant.going in
     let r = c.in_ok-goes_on.ensures.cells z refl (sym c.loop-time.auto.is_open) going.standing c.loop-time.invariant.marked in
     ended_there z _ _ _ _ _ _ _ _ going c.loop-time-test.true r.0 _ (cells_told z _ _ _ _ _ c.if-not-goes_on.true r.1) _ _ c.ended.ensures.many
@@ -31,19 +31,19 @@ returns-then-not-goes_on g c =
 pub returns-in_err-write_line : goal.returns-in_err-write_line
 returns-in_err-write_line g c =
     let z = start_of c.args.options.now (length c.args.is_open.now) c.args.engine.now (g.P.Places.world c.args.places.now)
-    (record { bytes = g.K.Sink.written c.args.out.now; faults = g.K.Sink.faults c.args.out.now }) in
+    (record { bytes = g.K.Sink.written c.args.out.now; faults = g.K.Sink.faults c.args.out.now; late = g.K.Sink.late c.args.out.now }) in
     let going = c.loop-time.invariant.going in
     let r = c.in_ok-goes_on.ensures.cells z refl (sym c.loop-time.auto.is_open) going.standing c.loop-time.invariant.marked in
     let p = err_from_is_err_and c.from_residual-in_err-write_line.result c.from_residual-in_err-write_line.ensures.1 in
     rw (p.1, p.2)
     (unwritten_there z _ _ _ _ _ _ _ _ going c.loop-time-test.true r.0 _ (cells_told z _ _ _ _ _ c.if-not-goes_on.false r.1)
-    (record { bytes = g.K.Sink.written c.write_line.new.out; faults = g.K.Sink.faults c.write_line.new.out }) c.in_err-write_line.field-0.0
+    (record { bytes = g.K.Sink.written c.write_line.new.out; faults = g.K.Sink.faults c.write_line.new.out; late = g.K.Sink.late c.write_line.new.out }) c.in_err-write_line.field-0.0
     c.in_err-write_line.ensures)
 
 pub loop-time-preserved : goal.loop-time-preserved
 loop-time-preserved g c =
     let z = start_of c.args.options.now (length c.args.is_open.now) c.args.engine.now (g.P.Places.world c.args.places.now)
-    (record { bytes = g.K.Sink.written c.args.out.now; faults = g.K.Sink.faults c.args.out.now }) in
+    (record { bytes = g.K.Sink.written c.args.out.now; faults = g.K.Sink.faults c.args.out.now; late = g.K.Sink.late c.args.out.now }) in
     let going = c.loop-time.invariant.going in
     let r = c.in_ok-goes_on.ensures.cells z refl (sym c.loop-time.auto.is_open) going.standing c.loop-time.invariant.marked in
     record {

@@ -1,4 +1,5 @@
 use Rattle.lucid_top.proofs.Common.{◌+◌, List, ℕ, subst, IfOk-weaker, IfErr-weaker, err_from_is_err_and, file, IsRefusalOf, IsSourceStop, HoldsCertificate, HeldCertificate, RefusesCertificate, most_certificate_bytes}
+use Rattle.clap.proofs.BuiltLemmas.{on_ok_always}
 use Rattle.lucid_top.proofs.Sources.{held_by, certificate_stop, read_stops}
 use Rattle.lucid_top.proofs.Doing.{has_reached, reaching_stopped}
 use Rattle.lucid_top.proofs.checking.read_certificate.Goals as goal
@@ -34,3 +35,6 @@ returns-clause-stopped g c =
 pub returns-clause-reading : goal.returns-clause-reading
 returns-clause-reading g c = has_reached c.in_ok-bytes.bytes (most_certificate_bytes + 1) (g.P.Places.world c.args.places.now)
     (g.P.Places.world c.read_certificate_file.new.places) c.judge_certificate.result c.in_ok-bytes.ensures.reading
+
+pub returns-clause-asked : goal.returns-clause-asked
+returns-clause-asked g c = on_ok_always c.judge_certificate.result c.in_ok-bytes.ensures.asked

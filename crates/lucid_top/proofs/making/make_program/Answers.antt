@@ -12,7 +12,7 @@ returns-in_err-inputs-clause-makes g c =
     let p = err_from_is_err_and c.from_residual.result c.from_residual.ensures.1 in
     unmade (table_of c.args.program.now) (table_stream (table_of c.args.program.now))
     (viewed (plain_words c.args.words.now) c.args.names.now c.args.numbers.items (g.P.Places.world c.args.places.now) (g.P.Places.world c.args.places.now)
-    (told g.K.Sink.written g.K.Sink.faults c.args.out.now) (told g.K.Sink.written g.K.Sink.faults c.args.out.now))
+    (told g.K.Sink.written g.K.Sink.faults g.K.Sink.late c.args.out.now) (told g.K.Sink.written g.K.Sink.faults g.K.Sink.late c.args.out.now))
     (time_asked (plain_words c.args.words.now)) c.from_residual.result p.0 p.1 p.2 refl (λ k n q is old new a b. same_contents _ old new a b)
 
 pub certify-requires-clause-askable : goal.certify-requires-clause-askable
@@ -41,8 +41,8 @@ returns-in-Ok-clause-makes g c =
     let w = plain_words c.args.words.now in
     let before = g.P.Places.world c.args.places.now in
     let after = g.P.Places.world c.certify.new.places in
-    let out = told g.K.Sink.written g.K.Sink.faults c.args.out.now in
-    let out_after = told g.K.Sink.written g.K.Sink.faults c.write_why.new.out in
+    let out = told g.K.Sink.written g.K.Sink.faults g.K.Sink.late c.args.out.now in
+    let out_after = told g.K.Sink.written g.K.Sink.faults g.K.Sink.late c.write_why.new.out in
     let made = c.in-Ok.ensures.made in
     let on : ReadOn c.args.numbers.items c.in_ok-inputs.inputs c.certify.new.inputs before after = record {
       fresh = c.in_ok-inputs.ensures.streams;
@@ -70,7 +70,7 @@ returns-clause-makes g c =
     let w = plain_words c.args.words.now in
     let before = g.P.Places.world c.args.places.now in
     let after = g.P.Places.world c.certify.new.places in
-    let out = told g.K.Sink.written g.K.Sink.faults c.args.out.now in
+    let out = told g.K.Sink.written g.K.Sink.faults g.K.Sink.late c.args.out.now in
     let made = c.in-Err.ensures.made in
     let on : ReadOn c.args.numbers.items c.in_ok-inputs.inputs c.certify.new.inputs before after = record {
       fresh = c.in_ok-inputs.ensures.streams;
@@ -90,3 +90,15 @@ pub returns-clause-others : goal.returns-clause-others
 returns-clause-others g c k =
     subst (λ ns. In k ns ⊎ ((g.P.Places.world c.certify.new.places).place k ≡ (g.P.Places.world c.args.places.now).place k))
     (places_are (streams c.in_ok-inputs.inputs) c.args.numbers.items c.in_ok-inputs.ensures.streams) (c.in-Err.ensures.made.reads_only.others k)
+
+pub returns-in-Ok-clause-asked : goal.returns-in-Ok-clause-asked
+returns-in-Ok-clause-asked g c = c.in-Ok.ensures.made.reads_only.asked
+
+pub returns-clause-asked : goal.returns-clause-asked
+returns-clause-asked g c = c.in-Err.ensures.made.reads_only.asked
+
+pub returns-in-Ok-clause-read_late : goal.returns-in-Ok-clause-read_late
+returns-in-Ok-clause-read_late g c = c.in-Ok.ensures.made.late
+
+pub returns-clause-read_late : goal.returns-clause-read_late
+returns-clause-read_late g c = c.in-Err.ensures.made.late

@@ -6,8 +6,8 @@ use Rattle.lucid_top.proofs.making.write_why.Goals as goal
 
 pub returns-clause-writes : goal.returns-clause-writes
 returns-clause-writes g c =
-    as_text (λ written. written ≡ c.deref.result.now) (λ text. IsTextOf text c.args.why.now) (told g.K.Sink.written g.K.Sink.faults c.args.out.now)
-    (told g.K.Sink.written g.K.Sink.faults c.write_out.new.out) c.write_out.result
+    as_text (λ written. written ≡ c.deref.result.now) (λ text. IsTextOf text c.args.why.now) (told g.K.Sink.written g.K.Sink.faults g.K.Sink.late c.args.out.now)
+    (told g.K.Sink.written g.K.Sink.faults g.K.Sink.late c.write_out.new.out) c.write_out.result
     (λ text is. record {
       has = record { rows = c.in_ok-show_why.ensures.fits; some = c.requires.some };
       text = is ∙ c.deref.ensures.value ∙ c.in_ok-show_why.ensures.text ∙ ap (λ front. front ++ why_text c.args.why.now) c.new-text.ensures.items;

@@ -15,7 +15,7 @@ returns-in_err-inputs-clause-ran g c =
     no_memory (table_program (plain_words c.args.words.now) (table_of c.args.program))
     (under (policy_view g.R.Retire.keeps g.R.Retire.empties g.R.Retire.most c.args.policy)
     (viewed (plain_words c.args.words.now) (c.args.names.now) c.args.numbers.items (g.P.Places.world c.args.places.now) (g.P.Places.world c.args.places.now)
-    (told g.K.Sink.written g.K.Sink.faults c.args.out.now) (told g.K.Sink.written g.K.Sink.faults c.args.out.now)))
+    (told g.K.Sink.written g.K.Sink.faults g.K.Sink.late c.args.out.now) (told g.K.Sink.written g.K.Sink.faults g.K.Sink.late c.args.out.now)))
     c.from_residual.result p.0 p.1 p.2 refl (λ k n q is old new a b. same_contents _ old new a b)
 
 pub run_streams-requires-clause-askable : goal.run_streams-requires-clause-askable
@@ -27,7 +27,7 @@ pub returns-in-Ok-clause-ran : goal.returns-in-Ok-clause-ran
 returns-in-Ok-clause-ran g c =
     seen_same (table_program (plain_words c.args.words.now) (table_of c.args.program)) (plain_words c.args.words.now) (g.P.Places.world c.args.places.now)
     (g.P.Places.world c.run_streams.new.places)
-    (told g.K.Sink.written g.K.Sink.faults c.args.out.now) (told g.K.Sink.written g.K.Sink.faults c.run_streams.new.out) (Ok c.in-Ok.summary)
+    (told g.K.Sink.written g.K.Sink.faults g.K.Sink.late c.args.out.now) (told g.K.Sink.written g.K.Sink.faults g.K.Sink.late c.run_streams.new.out) (Ok c.in-Ok.summary)
     (policy_view g.R.Retire.keeps g.R.Retire.empties g.R.Retire.most c.args.policy)
     (table_of c.args.program).inputs c.args.names.now (places_of (streams c.in_ok-inputs.inputs)) c.args.numbers.items (most_bytes c.in_ok-inputs.inputs)
     (sym c.requires.names) (places_are (streams c.in_ok-inputs.inputs) c.args.numbers.items c.in_ok-inputs.ensures.streams)
@@ -39,12 +39,12 @@ returns-in-Err-clause-ran g c =
     stopped_run (table_program (plain_words c.args.words.now) (table_of c.args.program))
     (under (policy_view g.R.Retire.keeps g.R.Retire.empties g.R.Retire.most c.args.policy)
     (viewed (plain_words c.args.words.now) (c.args.names.now) c.args.numbers.items (g.P.Places.world c.args.places.now)
-    (g.P.Places.world c.run_streams.new.places) (told g.K.Sink.written g.K.Sink.faults c.args.out.now)
-    (told g.K.Sink.written g.K.Sink.faults c.run_streams.new.out)))
+    (g.P.Places.world c.run_streams.new.places) (told g.K.Sink.written g.K.Sink.faults g.K.Sink.late c.args.out.now)
+    (told g.K.Sink.written g.K.Sink.faults g.K.Sink.late c.run_streams.new.out)))
     c.args.names.now c.wants_figures-stats.result c.in-Err.fault c.run_stop.result c.run_stop.ensures
     (seen_same (table_program (plain_words c.args.words.now) (table_of c.args.program)) (plain_words c.args.words.now) (g.P.Places.world c.args.places.now)
     (g.P.Places.world c.run_streams.new.places)
-    (told g.K.Sink.written g.K.Sink.faults c.args.out.now) (told g.K.Sink.written g.K.Sink.faults c.run_streams.new.out) (Err c.in-Err.fault)
+    (told g.K.Sink.written g.K.Sink.faults g.K.Sink.late c.args.out.now) (told g.K.Sink.written g.K.Sink.faults g.K.Sink.late c.run_streams.new.out) (Err c.in-Err.fault)
     (policy_view g.R.Retire.keeps g.R.Retire.empties g.R.Retire.most c.args.policy)
     (table_of c.args.program).inputs c.args.names.now (places_of (streams c.in_ok-inputs.inputs)) c.args.numbers.items (most_bytes c.in_ok-inputs.inputs)
     (sym c.requires.names) (places_are (streams c.in_ok-inputs.inputs) c.args.numbers.items c.in_ok-inputs.ensures.streams)
@@ -79,3 +79,21 @@ pub returns-in-Err-clause-counts_no_write : goal.returns-in-Err-clause-counts_no
 returns-in-Err-clause-counts_no_write g c =
     run_written c.args.names.now c.wants_figures-stats.result c.in-Err.fault c.run_stop.result (g.K.Sink.faults c.args.out.now)
     (g.K.Sink.faults c.run_streams.new.out) c.run_stop.ensures c.in-Err.ensures.causes.no_other_write
+
+pub returns-in-Ok-clause-asked : goal.returns-in-Ok-clause-asked
+returns-in-Ok-clause-asked g c = c.in-Ok.ensures.reads_only.asked
+
+pub returns-in-Err-clause-asked : goal.returns-in-Err-clause-asked
+returns-in-Err-clause-asked g c = c.in-Err.ensures.reads_only.asked
+
+pub returns-in-Ok-clause-read_late : goal.returns-in-Ok-clause-read_late
+returns-in-Ok-clause-read_late g c = c.in-Ok.ensures.causes.read_late
+
+pub returns-in-Err-clause-read_late : goal.returns-in-Err-clause-read_late
+returns-in-Err-clause-read_late g c = c.in-Err.ensures.causes.read_late
+
+pub returns-in-Ok-clause-write_late : goal.returns-in-Ok-clause-write_late
+returns-in-Ok-clause-write_late g c = c.in-Ok.ensures.causes.write_late
+
+pub returns-in-Err-clause-write_late : goal.returns-in-Err-clause-write_late
+returns-in-Err-clause-write_late g c = c.in-Err.ensures.causes.write_late

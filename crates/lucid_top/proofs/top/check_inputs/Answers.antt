@@ -1,4 +1,4 @@
-use Rattle.lucid_top.proofs.Common.{◌≡◌, ◌≢◌, ◌+◌, length, map, Some, refl, sym, ap, subst, ◌∙◌, arith, AllPairs, length-range_with_len, err_from_is_err_and, table_of, plain_words, Call, told, IsRefusalOf, RefusesGiven, FitsGiven, files_for, AreFresh, viewed, Checks, CheckComesOnly, HeldCertificate, RefusesCertificate, IsSourceStop, file, most_certificate_bytes}
+use Rattle.lucid_top.proofs.Common.{◌++◌, ◌∷◌, [], ◌≡◌, ◌≢◌, ◌+◌, length, map, Some, refl, sym, ap, subst, ◌∙◌, arith, AllPairs, length-range_with_len, err_from_is_err_and, table_of, plain_words, Call, told, IsRefusalOf, RefusesGiven, FitsGiven, files_for, AreFresh, viewed, Checks, CheckComesOnly, HeldCertificate, RefusesCertificate, IsSourceStop, file, most_certificate_bytes}
 use Rattle.lucid_session.specs.Subject.{table_stream}
 use Rattle.lucid_top.specs.Call.{call_under}
 use Rattle.lucid_report.specs.declared.stop.Stop.TheVariants as stop
@@ -8,6 +8,8 @@ use Rattle.lucid_top.proofs.CheckEnds.{certificate_stop, reaching_stop, check_en
 use Rattle.lucid_top.proofs.RunEnds.{carried, refs_are, refs_long, files_long, reached_of, range_differs, all_unread, earlier_stay}
 use Rattle.lucid_top.proofs.Counting.{none_at_ok, handed_on, counts_then}
 use Rattle.lucid_top.proofs.Reaching.{kept_then, reads_still}
+use Rattle.lucid_top.specs.Names.{AsksFront}
+use Rattle.lucid_top.proofs.NamesAsked.{none_asked, all_asked, asked_still, asked_then, front_more}
 use Rattle.lucid_top.proofs.top.check_inputs.Goals as goal
 
 pub returns-in_err-files-clause-comes : goal.returns-in_err-files-clause-comes
@@ -15,7 +17,7 @@ returns-in_err-files-clause-comes g c policy before b =
     let p = err_from_is_err_and c.from_residual.result c.from_residual.ensures.1 in
     let t = table_of c.args.program.now in
     let world = g.P.Places.world c.args.places.now in
-    let out = told g.K.Sink.written g.K.Sink.faults c.args.out.now in
+    let out = told g.K.Sink.written g.K.Sink.faults g.K.Sink.late c.args.out.now in
     let the_call : Call = call_under policy (Some (plain_words c.args.words.now)) before world out out in
     let refused = carried (λ names given. IsRefusalOf (RefusesGiven names given) c.in_err-files.field-0.0) c.args.names.now t.inputs c.deref.result.now
     c.args.words.now.given.items
@@ -27,7 +29,7 @@ returns-in_err-why-clause-comes g c policy before b =
     let p = err_from_is_err_and c.from_residual-in_err-why.result c.from_residual-in_err-why.ensures.1 in
     let t = table_of c.args.program.now in
     let world = g.P.Places.world c.args.places.now in
-    let out = told g.K.Sink.written g.K.Sink.faults c.args.out.now in
+    let out = told g.K.Sink.written g.K.Sink.faults g.K.Sink.late c.args.out.now in
     let fits = carried FitsGiven c.args.names.now t.inputs c.deref.result.now c.args.words.now.given.items c.requires.names c.deref.ensures.value
     c.in_ok-files.ensures.fits in
     let the_call : Call = call_under policy (Some (plain_words c.args.words.now)) before (g.P.Places.world c.read_certificate.new.places) out out in
@@ -52,7 +54,7 @@ returns-in_err-numbers-clause-comes g c policy before b =
     let p = err_from_is_err_and c.from_residual-in_err-numbers.result c.from_residual-in_err-numbers.ensures.1 in
     let world = g.P.Places.world c.args.places.now in
     let read_world = g.P.Places.world c.read_certificate.new.places in
-    let out = told g.K.Sink.written g.K.Sink.faults c.args.out.now in
+    let out = told g.K.Sink.written g.K.Sink.faults g.K.Sink.late c.args.out.now in
     let t = table_of c.args.program.now in
     let files = carried (λ names given. map (λ file. file.now) c.in_ok-files.files.items ≡ files_for names given) c.args.names.now t.inputs c.deref.result.now
     c.args.words.now.given.items
@@ -112,8 +114,8 @@ returns-clause-comes g c policy before b =
     let read_world = g.P.Places.world c.read_certificate.new.places in
     let reached_world = g.P.Places.world c.reach_files.new.places in
     let after = g.P.Places.world c.check_program.new.places in
-    let out = told g.K.Sink.written g.K.Sink.faults c.args.out.now in
-    let out_after = told g.K.Sink.written g.K.Sink.faults c.check_program.new.out in
+    let out = told g.K.Sink.written g.K.Sink.faults g.K.Sink.late c.args.out.now in
+    let out_after = told g.K.Sink.written g.K.Sink.faults g.K.Sink.late c.check_program.new.out in
     let t = table_of c.args.program.now in
     let files = carried (λ names given. map (λ file. file.now) c.in_ok-files.files.items ≡ files_for names given) c.args.names.now t.inputs c.deref.result.now
     c.args.words.now.given.items
@@ -193,3 +195,61 @@ returns-clause-counts_no_read g c =
     (none_at_ok c.in_ok-numbers.numbers stop.ReadFault (g.P.Places.world c.read_certificate.new.places).faults
     (g.P.Places.world c.reach_files.new.places).faults c.in_ok-numbers.ensures.counts_no_read)
     c.check_program.ensures.counts_no_read)
+
+pub returns-in_err-files-clause-asks : goal.returns-in_err-files-clause-asks
+returns-in_err-files-clause-asks g c = none_asked _ (g.P.Places.world c.args.places.now) (g.P.Places.world c.args.places.now) refl
+
+pub returns-in_err-why-clause-asks : goal.returns-in_err-why-clause-asks
+returns-in_err-why-clause-asks g c =
+    let check = (plain_words c.args.words.now).check in
+    let before = g.P.Places.world c.args.places.now in
+    let read = g.P.Places.world c.read_certificate.new.places in
+    front_more (check ∷ []) (files_for (table_of c.args.program.now).inputs (plain_words c.args.words.now).given) before read
+    (subst (λ name. AsksFront (name ∷ []) before read) c.deref-2.ensures c.in_err-why.ensures.asks)
+
+pub returns-in_err-numbers-clause-asks : goal.returns-in_err-numbers-clause-asks
+returns-in_err-numbers-clause-asks g c =
+    let t = table_of c.args.program.now in
+    let files = carried (λ names given. map (λ file. file.now) c.in_ok-files.files.items ≡ files_for names given) c.args.names.now t.inputs c.deref.result.now
+    c.args.words.now.given.items
+    c.requires.names c.deref.ensures.value c.in_ok-files.ensures.files in
+    let same = refs_are c.deref-3.result.now c.in_ok-files.files.items _ c.deref-3.ensures.value files in
+    let before = g.P.Places.world c.args.places.now in
+    let read = g.P.Places.world c.read_certificate.new.places in
+    let check = (plain_words c.args.words.now).check in
+    asked_then (check ∷ []) (files_for t.inputs (plain_words c.args.words.now).given) before read (g.P.Places.world c.reach_files.new.places)
+    (subst (λ name. read.asked ≡ before.asked ++ name ∷ []) c.deref-2.ensures c.in_ok-why.ensures.asked)
+    (subst (λ fs. AsksFront fs read (g.P.Places.world c.reach_files.new.places)) same c.in_err-numbers.ensures.asks)
+
+pub returns-clause-asks : goal.returns-clause-asks
+returns-clause-asks g c =
+    let t = table_of c.args.program.now in
+    let files = carried (λ names given. map (λ file. file.now) c.in_ok-files.files.items ≡ files_for names given) c.args.names.now t.inputs c.deref.result.now
+    c.args.words.now.given.items
+    c.requires.names c.deref.ensures.value c.in_ok-files.ensures.files in
+    let same = refs_are c.deref-3.result.now c.in_ok-files.files.items _ c.deref-3.ensures.value files in
+    let before = g.P.Places.world c.args.places.now in
+    let read = g.P.Places.world c.read_certificate.new.places in
+    let reached = g.P.Places.world c.reach_files.new.places in
+    let check = (plain_words c.args.words.now).check in
+    let names = files_for t.inputs (plain_words c.args.words.now).given in
+    asked_then (check ∷ []) names before read (g.P.Places.world c.check_program.new.places)
+    (subst (λ name. read.asked ≡ before.asked ++ name ∷ []) c.deref-2.ensures c.in_ok-why.ensures.asked)
+    (asked_still names read reached (g.P.Places.world c.check_program.new.places)
+    (all_asked names read reached (subst (λ fs. reached.asked ≡ read.asked ++ fs) same c.in_ok-numbers.ensures.asked)) c.check_program.ensures.asked)
+
+pub returns-in_err-why-clause-read_late : goal.returns-in_err-why-clause-read_late
+returns-in_err-why-clause-read_late g c = c.in_err-why.ensures.reading.late
+
+pub returns-in_err-numbers-clause-read_late : goal.returns-in_err-numbers-clause-read_late
+returns-in_err-numbers-clause-read_late g c good =
+    c.in_err-numbers.ensures.late (none_at_ok c.in_ok-why.why stop.ReadFault (g.P.Places.world c.args.places.now).faults
+    (g.P.Places.world c.read_certificate.new.places).faults c.in_ok-why.ensures.reading.counts_no_read ∙ good) ∙ c.in_ok-why.ensures.reading.late good
+
+pub returns-clause-read_late : goal.returns-clause-read_late
+returns-clause-read_late g c good =
+    let first = none_at_ok c.in_ok-why.why stop.ReadFault (g.P.Places.world c.args.places.now).faults (g.P.Places.world c.read_certificate.new.places).faults
+    c.in_ok-why.ensures.reading.counts_no_read in
+    let second = none_at_ok c.in_ok-numbers.numbers stop.ReadFault (g.P.Places.world c.read_certificate.new.places).faults
+    (g.P.Places.world c.reach_files.new.places).faults c.in_ok-numbers.ensures.counts_no_read in
+    c.check_program.ensures.read_late (second ∙ (first ∙ good)) ∙ (c.in_ok-numbers.ensures.late (first ∙ good) ∙ c.in_ok-why.ensures.reading.late good)

@@ -1,9 +1,11 @@
-use Rattle.lucid_top.proofs.Common.{◌+◌, Some, refl, sym, ap, subst, ◌∙◌, length, arith, err_from_is_err_and, IsWellMade, table_of, equations_of, KeepsTree, most_source_bytes, scoped_tree, scoped_inputs, scoped_binding, plain_words, told, Call, beside, RanSo, by_columns}
+use Rattle.lucid_top.proofs.Common.{inl, ◌+◌, Some, refl, sym, ap, subst, ◌∙◌, length, arith, err_from_is_err_and, IsWellMade, table_of, equations_of, KeepsTree, most_source_bytes, scoped_tree, scoped_inputs, scoped_binding, plain_words, told, Call, beside, RanSo, by_columns}
 use Rattle.lucid_session.specs.Runs.{policy_view}
 use Rattle.lucid_top.specs.Call.{call_under}
 use Rattle.lucid_top.proofs.Ending.{Begins, within_text, columns_stops, inputs_of, columns_of, first_place_le}
 use Rattle.lucid_top.proofs.Doing.{stops, memory_does, run_does}
 use Rattle.lucid_top.proofs.Carrying.{runs_columns, spaces_of_table}
+use Rattle.lucid_top.proofs.Doing.{asks_behind}
+use Rattle.lucid_top.specs.Names.{certificate_names}
 use Rattle.lucid_top.proofs.top.columns_task.Goals as goal
 
 pub returns-in_err-scoped : goal.returns-in_err-scoped
@@ -11,20 +13,20 @@ returns-in_err-scoped g c =
     let p = err_from_is_err_and c.from_residual.result c.from_residual.ensures.1 in
     let w = plain_words c.args.words.now in
     let here : Call = call_under (policy_view g.R.Retire.keeps g.R.Retire.empties g.R.Retire.most c.args.policy) (Some w) (g.P.Places.world c.args.places.now) (g.P.Places.world c.columns_of.new.places)
-    (told g.K.Sink.written g.K.Sink.faults c.args.out.now) (told g.K.Sink.written g.K.Sink.faults c.args.out.now) in
+    (told g.K.Sink.written g.K.Sink.faults g.K.Sink.late c.args.out.now) (told g.K.Sink.written g.K.Sink.faults g.K.Sink.late c.args.out.now) in
     let begins : Begins here w = refl in
     let text = c.requires.text (λ e. absurd (cc e)) in
     let read = c.in_err-scoped.ensures in
     let s = c.in_err-scoped.field-0.0 in
-    rw (p.1, p.2) (stops here w s refl refl read.reading.few (columns_stops here w s begins text c.requires.task read.stopped refl read.reading.few)
-    read.reading.counts_no_read (within_text w w.source here.after text read.reading.within))
+    rw (p.1, p.2) (stops here w s refl refl read.reading.few read.reading.asks (columns_stops here w s begins text c.requires.task read.stopped refl read.reading.few)
+    read.reading.counts_no_read read.reading.late (within_text w w.source here.after text read.reading.within))
 
 pub returns-in_err-program : goal.returns-in_err-program
 returns-in_err-program g c =
     let p = err_from_is_err_and c.from_residual-in_err-program.result c.from_residual-in_err-program.ensures.1 in
     let w = plain_words c.args.words.now in
     let here : Call = call_under (policy_view g.R.Retire.keeps g.R.Retire.empties g.R.Retire.most c.args.policy) (Some w) (g.P.Places.world c.args.places.now) (g.P.Places.world c.columns_of.new.places)
-    (told g.K.Sink.written g.K.Sink.faults c.args.out.now) (told g.K.Sink.written g.K.Sink.faults c.args.out.now) in
+    (told g.K.Sink.written g.K.Sink.faults g.K.Sink.late c.args.out.now) (told g.K.Sink.written g.K.Sink.faults g.K.Sink.late c.args.out.now) in
     let begins : Begins here w = refl in
     let read = c.in_ok-scoped.ensures in
     rw (p.1, p.2) (memory_does c.in_ok-scoped.scoped (most_source_bytes + 1) here w begins refl read.reading
@@ -47,7 +49,7 @@ pub returns : goal.returns
 returns g c =
     let w = plain_words c.args.words.now in
     let here : Call = call_under (policy_view g.R.Retire.keeps g.R.Retire.empties g.R.Retire.most c.args.policy) (Some w) (g.P.Places.world c.args.places.now) (g.P.Places.world c.run_inputs.new.places)
-    (told g.K.Sink.written g.K.Sink.faults c.args.out.now) (told g.K.Sink.written g.K.Sink.faults c.run_inputs.new.out) in
+    (told g.K.Sink.written g.K.Sink.faults g.K.Sink.late c.args.out.now) (told g.K.Sink.written g.K.Sink.faults g.K.Sink.late c.run_inputs.new.out) in
     let begins : Begins here w = refl in
     let text = c.requires.text (λ e. absurd (cc e)) in
     let read = c.in_ok-scoped.ensures in
@@ -69,4 +71,9 @@ returns g c =
       first = read.reading.reached;
     }))
     read.reading.counts_no_read c.run_inputs.ensures.counts_no_read c.run_inputs.ensures.counts_no_write
+    read.reading.late c.run_inputs.ensures.read_late c.run_inputs.ensures.write_late
+    (asks_behind here w (g.P.Places.world c.columns_of.new.places)
+    (by_columns (columns_of here w tree (scoped_inputs c.in_ok-scoped.scoped) begins text c.requires.task a inputs)) table.inputs
+    (subst IsWellMade a.beside.is a.beside.well_made) (inl c.requires.task) (sym c.in_ok-program.ensures.inputs)
+    (ap (λ t. certificate_names t w.check) c.requires.task) read.reading.asked c.run_inputs.ensures.asks)
     (within_text w w.source here.after text (c.run_inputs.ensures.within (most_source_bytes + 1) read.reading.reached read.reading.within))

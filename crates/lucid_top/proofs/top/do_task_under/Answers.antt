@@ -8,7 +8,7 @@ use Rattle.lucid_top.proofs.top.do_task_under.Goals as goal
 pub returns-in_err-words : goal.returns-in_err-words
 returns-in_err-words g c =
     let w = g.P.Places.world c.args.places.now in
-    let t = told g.K.Sink.written g.K.Sink.faults c.args.out.now in
+    let t = told g.K.Sink.written g.K.Sink.faults g.K.Sink.late c.args.out.now in
     let policy = policy_view g.R.Retire.keeps g.R.Retire.empties g.R.Retire.most c.args.policy in
     let here : Call = call_under policy (words_asked (map (string_bytes {Z = Rattle.std.specs.Global.Global}) c.args.words.now)) w w t t in
     let p = err_from_is_err_and c.from_residual.result c.from_residual.ensures.1 in
@@ -23,7 +23,7 @@ pub returns : goal.returns
 returns g c =
     let before = g.P.Places.world c.args.places.now in
     let after = g.P.Places.world c.do_words.new.places in
-    let out_before = told g.K.Sink.written g.K.Sink.faults c.args.out.now in
-    let out_after = told g.K.Sink.written g.K.Sink.faults c.do_words.new.out in
+    let out_before = told g.K.Sink.written g.K.Sink.faults g.K.Sink.late c.args.out.now in
+    let out_after = told g.K.Sink.written g.K.Sink.faults g.K.Sink.late c.do_words.new.out in
     let policy = policy_view g.R.Retire.keeps g.R.Retire.empties g.R.Retire.most c.args.policy in
     subst (λ asked. Does (call_under policy asked before after out_before out_after) c.do_words.result) (sym c.in_ok-words.ensures.asked) c.do_words.ensures

@@ -34,9 +34,12 @@ returns-in_err-source-clause-reading g c =
     (g.P.Places.world c.read_source.new.places) (record {
       reached = tt;
       few = c.in_err-source.ensures.few;
+      asks = c.in_err-source.ensures.asks;
+      asked = tt;
       within = c.in_err-source.ensures.within;
       keeps = c.in_err-source.ensures.keeps;
       counts_no_read = c.in_err-source.ensures.counts_no_read;
+      late = c.in_err-source.ensures.late;
     }))
 
 pub returns-clause-reading : goal.returns-clause-reading
@@ -45,7 +48,10 @@ returns-clause-reading g c = has_read c.in_ok-source.source (most_flat_bytes + 1
     (record {
       reached = c.in_ok-source.ensures.reached;
       few = c.in_ok-source.ensures.few;
+      asks = c.in_ok-source.ensures.asks;
+      asked = c.in_ok-source.ensures.asked;
       within = c.in_ok-source.ensures.within;
       keeps = c.in_ok-source.ensures.keeps;
       counts_no_read = c.in_ok-source.ensures.counts_no_read;
+      late = c.in_ok-source.ensures.late;
     })

@@ -9,7 +9,7 @@ returns-in_err-scoped g c policy =
     let p = err_from_is_err_and c.from_residual.result c.from_residual.ensures.1 in
     let w = plain_words c.args.words.now in
     let here : Call = call_under policy (Some w) (g.P.Places.world c.args.places.now) (g.P.Places.world c.program_of.new.places)
-    (told g.K.Sink.written g.K.Sink.faults c.args.out.now) (told g.K.Sink.written g.K.Sink.faults c.args.out.now) in
+    (told g.K.Sink.written g.K.Sink.faults g.K.Sink.late c.args.out.now) (told g.K.Sink.written g.K.Sink.faults g.K.Sink.late c.args.out.now) in
     let begins : Begins here w = refl in
     let read = c.in_err-scoped.ensures in
     rw (p.1, p.2) (program_does here w c.in_err-scoped.field-0.0 begins (c.requires.text (λ e. absurd (cc e))) (flat_not_print w c.requires.task) refl
@@ -22,7 +22,7 @@ pub returns : goal.returns
 returns g c policy =
     let w = plain_words c.args.words.now in
     let here : Call = call_under policy (Some w) (g.P.Places.world c.args.places.now) (g.P.Places.world c.program_of.new.places)
-    (told g.K.Sink.written g.K.Sink.faults c.args.out.now) (told g.K.Sink.written g.K.Sink.faults c.write_flat.new.out) in
+    (told g.K.Sink.written g.K.Sink.faults g.K.Sink.late c.args.out.now) (told g.K.Sink.written g.K.Sink.faults g.K.Sink.late c.write_flat.new.out) in
     let begins : Begins here w = refl in
     let text = c.requires.text (λ e. absurd (cc e)) in
     let read = c.in_ok-scoped.ensures in
@@ -30,4 +30,4 @@ returns g c policy =
     let inputs = inputs_of tree (scoped_inputs c.in_ok-scoped.scoped) (scoped_binding c.in_ok-scoped.scoped) read.resolved.resolved in
     let names = names_of here w tree (scoped_inputs c.in_ok-scoped.scoped) begins text (flat_not_print w c.requires.task) read.accepted inputs in
     writing_does c.in_ok-scoped.scoped here w (flattens names c.requires.task) c.write_flat.result
-    begins text read.reading c.write_flat.ensures.writes c.write_flat.ensures.counts_no_write
+    begins text read.reading c.write_flat.ensures.writes c.write_flat.ensures.counts_no_write c.write_flat.ensures.late

@@ -23,15 +23,17 @@ returns-clause-clauses g c =
       one_certificate_refusal = c.one_verdict.ensures.one_certificate_refusal;
     } in
     let asked = words_asked (map (string_bytes {Z = Rattle.std.specs.Global.Global}) c.args.words.now) in
-    let out_before = told g.K.Sink.written g.K.Sink.faults c.args.out.now in
-    let out_after = told g.K.Sink.written g.K.Sink.faults c.do_task_under-outcome.new.out in
-    let before = told g.E.Sink.written g.E.Sink.faults c.args.report.now in
-    let after = told g.E.Sink.written g.E.Sink.faults c.tell.new.report in
+    let out_before = told g.K.Sink.written g.K.Sink.faults g.K.Sink.late c.args.out.now in
+    let out_after = told g.K.Sink.written g.K.Sink.faults g.K.Sink.late c.do_task_under-outcome.new.out in
+    let before = told g.E.Sink.written g.E.Sink.faults g.E.Sink.late c.args.report.now in
+    let after = told g.E.Sink.written g.E.Sink.faults g.E.Sink.late c.tell.new.report in
     let policy = policy_view g.R.Retire.keeps g.R.Retire.empties g.R.Retire.most c.args.policy in
     meets laws (call_under policy asked (g.P.Places.world c.args.places.now) (g.P.Places.world c.do_task_under-outcome.new.places) out_before out_after) before after
     c.do_task_under-outcome.result c.tell.result
     c.do_task_under-outcome.ensures.comes (λ a. c.do_task_under-outcome.ensures.within a.words a.read) (λ a. c.do_task_under-outcome.ensures.certificate a.words a.read)
-    (record { reads = c.do_task_under-outcome.ensures.counts_no_read; writes = c.do_task_under-outcome.ensures.counts_no_write }) c.tell.ensures
+    c.do_task_under-outcome.ensures.asks c.do_task_under-outcome.ensures.unasked
+    (record { reads = c.do_task_under-outcome.ensures.counts_no_read; writes = c.do_task_under-outcome.ensures.counts_no_write })
+    (record { reads = c.do_task_under-outcome.ensures.read_late; writes = c.do_task_under-outcome.ensures.write_late; report = c.tell.ensures.late }) c.tell.ensures.tells
 
 pub returns-clause-headline : goal.returns-clause-headline
 returns-clause-headline g c = headline-follows _ _ _ _ (returns-clause-clauses g c)

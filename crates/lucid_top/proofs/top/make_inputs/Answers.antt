@@ -1,4 +1,4 @@
-use Rattle.lucid_top.proofs.Common.{◌≡◌, ◌≢◌, length, map, Some, refl, sym, ap, subst, ◌∙◌, arith, AllPairs, length-range_with_len, err_from_is_err_and, table_of, plain_words, Call, told, IsRefusalOf, RefusesGiven, FitsGiven, files_for, AreFresh, viewed, le_refl, Makes, MakingComesOnly, time_asked}
+use Rattle.lucid_top.proofs.Common.{◌++◌, ◌≡◌, ◌≢◌, length, map, Some, refl, sym, ap, subst, ◌∙◌, arith, AllPairs, length-range_with_len, err_from_is_err_and, table_of, plain_words, Call, told, IsRefusalOf, RefusesGiven, FitsGiven, files_for, AreFresh, viewed, le_refl, Makes, MakingComesOnly, time_asked}
 use Rattle.lucid_session.specs.Subject.{table_stream}
 use Rattle.lucid_top.specs.Call.{call_under}
 use Rattle.lucid_report.specs.declared.stop.Stop.TheVariants as stop
@@ -7,6 +7,8 @@ use Rattle.lucid_top.proofs.Certifying.{given_stops}
 use Rattle.lucid_top.proofs.Counting.{none_at_ok, handed_on, counts_then}
 use Rattle.lucid_top.proofs.MakingEnds.{reaching_stop, making_ends}
 use Rattle.lucid_top.proofs.RunEnds.{carried, refs_are, refs_long, files_long, reached_of, range_differs, all_unread, earlier_stay}
+use Rattle.lucid_top.specs.Names.{AsksFront}
+use Rattle.lucid_top.proofs.NamesAsked.{none_asked, all_asked, asked_still}
 use Rattle.lucid_top.proofs.top.make_inputs.Goals as goal
 
 pub returns-in_err-files-clause-comes : goal.returns-in_err-files-clause-comes
@@ -14,7 +16,7 @@ returns-in_err-files-clause-comes g c policy before b =
     let p = err_from_is_err_and c.from_residual.result c.from_residual.ensures.1 in
     let t = table_of c.args.program.now in
     let world = g.P.Places.world c.args.places.now in
-    let out = told g.K.Sink.written g.K.Sink.faults c.args.out.now in
+    let out = told g.K.Sink.written g.K.Sink.faults g.K.Sink.late c.args.out.now in
     let the_call : Call = call_under policy (Some (plain_words c.args.words.now)) before world out out in
     let refused = carried (λ names given. IsRefusalOf (RefusesGiven names given) c.in_err-files.field-0.0) c.args.names.now t.inputs c.deref.result.now
     c.args.words.now.given.items
@@ -37,7 +39,7 @@ returns-in_err-numbers-clause-comes g c policy before b =
     let p = err_from_is_err_and c.from_residual-in_err-numbers.result c.from_residual-in_err-numbers.ensures.1 in
     let t = table_of c.args.program.now in
     let world = g.P.Places.world c.args.places.now in
-    let out = told g.K.Sink.written g.K.Sink.faults c.args.out.now in
+    let out = told g.K.Sink.written g.K.Sink.faults g.K.Sink.late c.args.out.now in
     let files = carried (λ names given. map (λ file. file.now) c.in_ok-files.files.items ≡ files_for names given) c.args.names.now t.inputs c.deref.result.now
     c.args.words.now.given.items
     c.requires.names c.deref.ensures.value c.in_ok-files.ensures.files in
@@ -90,8 +92,8 @@ returns-clause-comes g c policy before b =
     let world = g.P.Places.world c.args.places.now in
     let reached_world = g.P.Places.world c.reach_files.new.places in
     let after = g.P.Places.world c.make_program.new.places in
-    let out = told g.K.Sink.written g.K.Sink.faults c.args.out.now in
-    let out_after = told g.K.Sink.written g.K.Sink.faults c.make_program.new.out in
+    let out = told g.K.Sink.written g.K.Sink.faults g.K.Sink.late c.args.out.now in
+    let out_after = told g.K.Sink.written g.K.Sink.faults g.K.Sink.late c.make_program.new.out in
     let files = carried (λ names given. map (λ file. file.now) c.in_ok-files.files.items ≡ files_for names given) c.args.names.now t.inputs c.deref.result.now
     c.args.words.now.given.items
     c.requires.names c.deref.ensures.value c.in_ok-files.ensures.files in
@@ -128,3 +130,33 @@ returns-clause-counts_no_read g c =
     (g.P.Places.world c.make_program.new.places).faults
     (none_at_ok c.in_ok-numbers.numbers stop.ReadFault (g.P.Places.world c.args.places.now).faults (g.P.Places.world c.reach_files.new.places).faults
     c.in_ok-numbers.ensures.counts_no_read) c.make_program.ensures.counts_no_read
+
+pub returns-in_err-files-clause-asks : goal.returns-in_err-files-clause-asks
+returns-in_err-files-clause-asks g c = none_asked _ (g.P.Places.world c.args.places.now) (g.P.Places.world c.args.places.now) refl
+
+pub returns-in_err-numbers-clause-asks : goal.returns-in_err-numbers-clause-asks
+returns-in_err-numbers-clause-asks g c =
+    let t = table_of c.args.program.now in
+    let files = carried (λ names given. map (λ file. file.now) c.in_ok-files.files.items ≡ files_for names given) c.args.names.now t.inputs c.deref.result.now
+    c.args.words.now.given.items
+    c.requires.names c.deref.ensures.value c.in_ok-files.ensures.files in
+    let same = refs_are c.deref-2.result.now c.in_ok-files.files.items _ c.deref-2.ensures.value files in
+    subst (λ fs. AsksFront fs (g.P.Places.world c.args.places.now) (g.P.Places.world c.reach_files.new.places)) same c.in_err-numbers.ensures.asks
+
+pub returns-clause-asks : goal.returns-clause-asks
+returns-clause-asks g c =
+    let t = table_of c.args.program.now in
+    let files = carried (λ names given. map (λ file. file.now) c.in_ok-files.files.items ≡ files_for names given) c.args.names.now t.inputs c.deref.result.now
+    c.args.words.now.given.items
+    c.requires.names c.deref.ensures.value c.in_ok-files.ensures.files in
+    let same = refs_are c.deref-2.result.now c.in_ok-files.files.items _ c.deref-2.ensures.value files in
+    let before = g.P.Places.world c.args.places.now in
+    let reached = g.P.Places.world c.reach_files.new.places in
+    asked_still (files_for t.inputs (plain_words c.args.words.now).given) before reached (g.P.Places.world c.make_program.new.places)
+    (all_asked (files_for t.inputs (plain_words c.args.words.now).given) before reached
+    (subst (λ fs. reached.asked ≡ before.asked ++ fs) same c.in_ok-numbers.ensures.asked)) c.make_program.ensures.asked
+
+pub returns-clause-read_late : goal.returns-clause-read_late
+returns-clause-read_late g c good =
+    c.make_program.ensures.read_late (none_at_ok c.in_ok-numbers.numbers stop.ReadFault (g.P.Places.world c.args.places.now).faults
+    (g.P.Places.world c.reach_files.new.places).faults c.in_ok-numbers.ensures.counts_no_read ∙ good) ∙ c.in_ok-numbers.ensures.late good

@@ -14,8 +14,8 @@ returns-clause-writes g c =
     let table : Table = table_of c.in_ok-program.program in
     let exact = c.in_ok-program.ensures.exact in
     let inputs = inputs_of tree (scoped_inputs c.args.scoped.now) (scoped_binding c.args.scoped.now) c.requires.resolved.resolved in
-    as_text (λ written. written ≡ c.deref.result.now) (IsFlatForm tree) (told g.K.Sink.written g.K.Sink.faults c.args.out.now)
-    (told g.K.Sink.written g.K.Sink.faults c.write_out.new.out) c.write_out.result
+    as_text (λ written. written ≡ c.deref.result.now) (IsFlatForm tree) (told g.K.Sink.written g.K.Sink.faults g.K.Sink.late c.args.out.now)
+    (told g.K.Sink.written g.K.Sink.faults g.K.Sink.late c.write_out.new.out) c.write_out.result
     (λ text is.
     let sound : IsSound table = c.in_ok-program.ensures.sound c.requires.few in
     let is_text : IsTextOf text table = record {

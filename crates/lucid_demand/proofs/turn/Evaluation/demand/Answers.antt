@@ -1,4 +1,4 @@
-use Rattle.lucid_demand.proofs.Common.{refl, sym, subst, demand_of, LoopEnds}
+use Rattle.lucid_demand.proofs.Common.{refl, sym, subst, ◌∙◌, demand_of, LoopEnds}
 use Rattle.lucid_demand.proofs.TakenParts.{err_is}
 use Rattle.lucid_demand.proofs.Looping.{ends_at_once, ends_with, ends_refused, goes_on, may_turn, less_is_left, uncounted}
 use Rattle.lucid_demand.proofs.turn.Evaluation.demand.Goals as goal
@@ -13,7 +13,7 @@ returns-in_err-begin g c =
     (c.in_err-begin.ensures w c.requires.sound c.requires.may.inputs))
 
 pub loop-answer-init : goal.loop-answer-init
-loop-answer-init g c = (c.in_ok-begin.ensures (g.P.Places.world c.args.places.now) c.requires.sound c.requires.may.inputs, refl)
+loop-answer-init g c = (c.in_ok-begin.ensures (g.P.Places.world c.args.places.now) c.requires.sound c.requires.may.inputs, refl, λ good. refl)
 
 pub returns-in-Some : goal.returns-in-Some
 returns-in-Some g c =
@@ -21,7 +21,7 @@ returns-in-Some g c =
     let u = g.P.Places.world c.args.places.now in
     let v = g.P.Places.world c.loop-answer.places in
     ends_with e u c.args.time c.args.space c.args.limit c.loop-answer.self v c.loop-answer.answer c.in-Some.value c.in-Some.is c.loop-answer.invariant.1
-    c.loop-answer.invariant.0
+    c.loop-answer.invariant.2 c.loop-answer.invariant.0
 
 pub turn-requires-clause-may : goal.turn-requires-clause-may
 turn-requires-clause-may g c =
@@ -44,6 +44,7 @@ returns-in_err-turn g c =
     (sym (err_is c.from_residual-in_err-turn.result c.in_err-turn.field-0.0 c.from_residual-in_err-turn.ensures.1))
     (ends_refused e u c.args.time c.args.space c.args.limit c.loop-answer.self c.turn.new.self v w c.in_err-turn.field-0.0 may c.loop-answer.invariant.1
     c.turn.ensures.faults c.in_err-turn.ensures.counts
+    (λ good. c.in_err-turn.ensures.late (c.loop-answer.invariant.1 ∙ good) ∙ c.loop-answer.invariant.2 good)
     (c.in_err-turn.ensures.steps d may))
 
 pub loop-answer-smaller : goal.loop-answer-smaller
@@ -67,4 +68,5 @@ loop-answer-preserved g c =
     let may = may_turn e u c.args.time c.args.space c.args.limit c.loop-answer.self v c.loop-answer.answer c.in_default.is c.loop-answer.invariant.0 in (
       goes_on e u c.args.time c.args.space c.args.limit c.loop-answer.self c.turn.new.self v w c.turn.new.answer may (c.in_ok-turn.ensures.steps d may),
       uncounted u v w c.loop-answer.invariant.1 _ c.in_ok-turn.ensures.counts,
+      λ good. c.in_ok-turn.ensures.late (c.loop-answer.invariant.1 ∙ good) ∙ c.loop-answer.invariant.2 good,
     )

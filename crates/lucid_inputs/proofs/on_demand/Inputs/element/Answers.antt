@@ -15,5 +15,6 @@ returns g c =
         not_too_large = c.in_ok-read_on.ensures.not_too_large;
         failed = λ e. cc;
         counts_no_fault = search rules;
+        late = c.in_ok-read_on.ensures.late;
       },
     )

@@ -1,10 +1,10 @@
-use Rattle.lucid_inputs.proofs.Common.{◌≡◌, false, refl, rules, arith, length-map, element_of}
+use Rattle.lucid_inputs.proofs.Common.{◌≡◌, false, refl, ◌∙◌, rules, arith, length-map, element_of}
 use Rattle.std.proofs.lemmas.Bool.{not-true}
 use Rattle.lucid_inputs.proofs.StepLemmas.{reads_none, reads_further, step_done, step_smaller, step_within}
 use Rattle.lucid_inputs.proofs.stream.InputStream.read_on.Goals as goal
 
 pub pieces-init : goal.pieces-init
-pieces-init g c = record { on = reads_none _ _ _ c.requires.fits; faults = refl; within = c.requires.within }
+pieces-init g c = record { on = reads_none _ _ _ c.requires.fits; faults = refl; late = λ good. refl; within = c.requires.within }
 
 pub pieces-preserved : goal.pieces-preserved
 pieces-preserved g c =
@@ -15,8 +15,12 @@ pieces-preserved g c =
       on = reads_further _ _ _ _ _ _ _ c.pieces.invariant.on going (omega (arith, few, c.pieces.self.elements.ok.0, c.len.ensures, c.if-len-index.true)) done
           c.in_ok-read_piece.ensures.reached c.in_ok-read_piece.ensures.others;
       faults = search rules;
+      late = λ good. c.in_ok-read_piece.ensures.late (c.pieces.invariant.faults ∙ good) ∙ c.pieces.invariant.late good;
       within = step_within _ _ _ _ _ done c.if-self-most.true c.in_ok-read_piece.ensures.most;
     }
+
+pub returns-in_err-read_piece-clause-late : goal.returns-in_err-read_piece-clause-late
+returns-in_err-read_piece-clause-late g c good = c.in_err-read_piece.ensures.late (c.pieces.invariant.faults ∙ good) ∙ c.pieces.invariant.late good
 
 pub pieces-smaller : goal.pieces-smaller
 pieces-smaller g c =

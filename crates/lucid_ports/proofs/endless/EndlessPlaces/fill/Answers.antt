@@ -37,6 +37,7 @@ returns c =
             refused = tt;
             failed = λ fails. cc;
             counts_no_fault = inr refl;
+            counts_late = (λ some low. omega (arith, some), λ good. refl);
           },
           record {
             piece = subst (λ o. IfSome (option_map (spot_of files piece) o) (λ spot. c.next_from.result.now ≡ next_bytes piece spot)) (sym was) (sym here);

@@ -46,6 +46,7 @@ returns c =
             refused = tt;
             failed = λ fails. cc;
             counts_no_fault = inr refl;
+            counts_late = c.late_after-self.ensures;
           },
           record { piece = shows_piece _ _ _ _ _ _ clauses; faults = refl },
         ),

@@ -38,6 +38,7 @@ returns g c =
             refused = tt;
             failed = λ fails. absurd (none_failed fails);
             counts_no_fault = inr refl;
+            counts_late = c.late_after-self.ensures;
           },
           (
             refl,
@@ -80,6 +81,7 @@ returns-then-is_none g c =
             refused = real_same of_file of_input _ _ p q was is c.fill.ensures.contents same;
             failed = λ _ low. omega (arith, c.saturating_add-self.ensures, low);
             counts_no_fault = inl refl;
+            counts_late = c.late_after-self.ensures;
           },
           (
             c.saturating_add-self.ensures,
