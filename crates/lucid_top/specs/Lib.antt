@@ -17,6 +17,7 @@ pub mod Running
 pub mod Writing
 pub mod Checks
 pub mod Makes
+pub mod Certified
 pub mod Clauses
 pub mod Headline
 pub mod Witness

@@ -4,10 +4,8 @@
 #![tactic(auto)]
 
 pub use crate::arguments::lucid_from_arguments;
-pub use crate::files::input_files;
-pub use crate::making::make_program;
-pub use crate::places::reach_files;
-pub use crate::top::{lucid, lucid_under, program_of};
+pub use crate::task::Task;
+pub use crate::top::{Certified, lucid, lucid_under, make_why};
 pub use crate::writing::write_out;
 
 mod arguments;

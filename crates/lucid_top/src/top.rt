@@ -22,6 +22,7 @@ ghost use Rattle.lucid_top.specs.Names.{AsksFront};
 ghost use Rattle.lucid_top.specs.Flat.{most_flat_bytes, RefusesFlat};
 ghost use Rattle.lucid_top.specs.Certificates.{most_certificate_bytes};
 ghost use Rattle.lucid_top.specs.Places.{CountsNoRead, CountsNoWrite, ReadsSource, ReadsPlace, AreKept, HasRead, SpeltBySource, FlatBySource, IsAccepted, IsAcceptedBeside, IsSourceStop, IsProgramStop, IsColumnsStop};
+ghost use Rattle.lucid_top.specs.Certified.{made_outcome, IsOfWords};
 ghost use Rattle.lucid_top.specs.Coming.{Comes, Does, MayBegin, RunsTable, ProvesTable};
 ghost use Rattle.lucid_top.specs.Clauses.{MeetsClauses};
 ghost use Rattle.lucid_top.specs.Headline.{HasHeadline};
@@ -71,8 +72,8 @@ fn tree_of<P: Places>(alloc: Global, words: &Words, places: &mut P) -> Result<Tr
     read_tree(alloc, &source)
 }
 
-/// The tree of the source that the words name, with what its names belong to.
-pub fn program_of<P: Places>(alloc: Global, words: &Words, places: &mut P) -> Result<Scoped, Stop>
+// The tree of the source that the words name, with what its names belong to.
+fn program_of<P: Places>(alloc: Global, words: &Words, places: &mut P) -> Result<Scoped, Stop>
     requires made { MadeIsFromTo 1 10000 words.now.source }
     requires none { (P.world places.old).reached ≡ 0 }
     ensures accepted { IfOk result (λ scoped. IsAccepted (plain_source words.now.source) (P.world places.old) (scoped_tree scoped)) }
@@ -298,6 +299,7 @@ fn make_inputs<P: Places, K: Sink>(
         → ProvesTable (call_under policy (Some (plain_words words.now)) before (P.world places.new) (told K.written K.faults K.late out.old) (told K.written K.faults K.late out.new)) Task.Why (plain_words words.now) (table_of program.now) (P.world places.old)
         → Comes (call_under policy (Some (plain_words words.now)) before (P.world places.new) (told K.written K.faults K.late out.old) (told K.written K.faults K.late out.new)) result }
     ensures asks { AsksFront (files_for (table_of program.now).inputs (plain_words words.now).given) (P.world places.old) (P.world places.new) }
+    ensures written { IfOk result (λ done. done ≡ Done.Written) }
     ensures counts_no_read { CountsNoRead result (P.world places.old) (P.world places.new) }
     ensures counts_no_write { CountsNoWrite result (K.faults out.old) (K.faults out.new) }
     ensures read_late { AsksNoneLate (P.world places.old) (P.world places.new) }
@@ -307,6 +309,31 @@ fn make_inputs<P: Places, K: Sink>(
     let files = input_files(alloc, names, &words.given)?;
     let numbers = reach_files(alloc, places, &files)?;
     make_program(alloc, words, names, program, numbers, places, out)
+}
+
+/// A program of which a certificate was made: its tree, with what its names belong to, and its table.
+#[derive(Drop)]
+pub struct Certified {
+    pub scoped: Scoped,
+    pub program: Program,
+}
+
+/// Makes a certificate of the value that the words ask for, of the program that they name, and writes its text, as `lucid` does where the words
+/// are its own. It gives the program back.
+pub fn make_why<P: Places, K: Sink>(
+    alloc: Global,
+    words: &Words,
+    places: &mut P,
+    out: &mut K,
+) -> Result<Certified, Stop>
+    requires { MayBegin words.now Task.Why (P.world places.old) }
+    ensures does { (policy : PolicyView) → Does (call_under policy (Some (plain_words words.now)) (P.world places.old) (P.world places.new) (told K.written K.faults K.late out.old) (told K.written K.faults K.late out.new)) (made_outcome result) }
+    ensures program { IfOk result (IsOfWords (plain_words words.now) (P.world places.old)) }
+{
+    let scoped = program_of(alloc, words, places)?;
+    let program = compile(alloc, &scoped)?;
+    make_inputs(alloc, words, scoped.inputs(), &program, places, out)?;
+    Ok(Certified { scoped, program })
 }
 
 // Makes a certificate of a value of the program that the words name.
@@ -319,9 +346,8 @@ fn why_task<P: Places, K: Sink>(
     requires { MayBegin words.now Task.Why (P.world places.old) }
     ensures { (policy : PolicyView) → Does (call_under policy (Some (plain_words words.now)) (P.world places.old) (P.world places.new) (told K.written K.faults K.late out.old) (told K.written K.faults K.late out.new)) result }
 {
-    let scoped = program_of(alloc, words, places)?;
-    let program = compile(alloc, &scoped)?;
-    make_inputs(alloc, words, scoped.inputs(), &program, places, out)
+    make_why(alloc, words, places, out)?;
+    Ok(Done::Written)
 }
 
 // Checks the certificate in the file that the words name, of the program, over the files that the words give its inputs, which have these

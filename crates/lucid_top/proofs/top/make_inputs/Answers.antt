@@ -1,6 +1,9 @@
 use Rattle.lucid_top.proofs.Common.{◌++◌, ◌≡◌, ◌≢◌, length, map, Some, refl, sym, ap, subst, ◌∙◌, arith, AllPairs, length-range_with_len, err_from_is_err_and, table_of, plain_words, Call, told, IsRefusalOf, RefusesGiven, FitsGiven, files_for, AreFresh, viewed, le_refl, Makes, MakingComesOnly, time_asked}
 use Rattle.lucid_session.specs.Subject.{table_stream}
+use Rattle.std.proofs.Common.{ℕ, List, Ok, Err, IfOk}
 use Rattle.lucid_top.specs.Call.{call_under}
+use Rattle.lucid_report.specs.Status.{Outcome}
+use Rattle.lucid_report.specs.declared.stop.Done.TheVariants as done
 use Rattle.lucid_report.specs.declared.stop.Stop.TheVariants as stop
 use Rattle.lucid_top.specs.declared.task.Task.TheVariants as task
 use Rattle.lucid_top.proofs.Certifying.{given_stops}
@@ -110,6 +113,15 @@ returns-clause-comes g c policy before b =
     c.make_program.result) c.requires.names c.make_program.ensures.makes)
     (subst (λ names. MakingComesOnly names (time_asked w) reached_world.faults after.faults (g.K.Sink.faults c.args.out.now)
     (g.K.Sink.faults c.make_program.new.out) c.make_program.result) c.requires.names c.make_program.ensures.comes_only)
+
+-- a certificate is made, or nothing is
+only_written : (names : List (List ℕ)) (time f f' g g' : ℕ) (o : Outcome) → MakingComesOnly names time f f' g g' o → IfOk o (λ d. d ≡ done.Written)
+only_written names t f f' g g' (Ok done.Written) h = refl
+only_written names t f f' g g' (Ok (done.Ran summary stats)) h = absurd h
+only_written names t f f' g g' (Err why) h = tt
+
+pub returns-clause-written : goal.returns-clause-written
+returns-clause-written g c = only_written _ _ _ _ _ _ c.make_program.result c.make_program.ensures.comes_only
 
 pub returns-clause-others : goal.returns-clause-others
 returns-clause-others g c =
