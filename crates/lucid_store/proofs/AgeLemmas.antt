@@ -1,7 +1,12 @@
 -- Ages, of which the last ones are 0 and lie nowhere.
-use Rattle.lucid_store.proofs.Common.{◌≡◌, ℕ, zero, suc, ◌+◌, ◌-◌, ◌≤◌, ◌<◌, List, [], ◌∷◌, ◌++◌, length, map, take, Some, slice_get, refl, sym, ap, subst, ◌∙◌, arith, slice_set, swap_remove, length-append, length-set, length-take-le, get_or_default, zeros, older, append-nil, length-map, get_or-take, get_or-set_other, get_or-set_same}
+use Rattle.lucid_store.proofs.Common.{◌≡◌, ℕ, zero, suc, ◌+◌, ◌-◌, ◌≤◌, ◌<◌, List, [], ◌∷◌, ◌++◌, length, map, take, Option, Some, None, slice_get, refl, sym, ap, subst, ◌∙◌, arith, slice_set, swap_remove, AllWithin, length-set, length-take-le, get_or_default, zeros, older, append-nil, length-map, get_or-take, get_or-set_other, get_or-set_same}
 use Rattle.std.proofs.Common.{slice_index_or}
-use Rattle.std.specs.Prelude.{◌≢◌}
+use Rattle.std.proofs.Common.{inl, inr}
+use Rattle.std.proofs.lemmas.Bool.{cases_lt}
+use Rattle.std.proofs.lemmas.List.{get_or_append_left}
+use Rattle.std.proofs.lemmas.Option.{slice_get-get_or}
+use Rattle.std.specs.Prelude.{◌≢◌, min, replicate}
+use Rattle.lucid_store.specs.Ages.{IsLastOver}
 
 pub length-zeros : (n : ℕ) → length (zeros n) ≡ n
 length-zeros zero = refl
@@ -105,13 +110,10 @@ dropped-view ws now count view few some =
     let cut : length now - 1 ≡ length ws + (count - 1 - length ws) = omega (arith, len, few, some) in
     sym (ap (take (length now - 1)) (sym view ∙ ap (λ k. ws ++ zeros k) more) ∙ last-goes ws (count - 1 - length ws) (length now - 1) cut)
 
--- one age more is written
-pub filled-more : (first ws vs : List ℕ) → ws ≡ first ++ zeros (length ws - length first) → length first ≤ length ws → vs ≡ ws ++ 0 ∷ []
-    → vs ≡ first ++ zeros (length vs - length first)
-filled-more first ws vs same more push =
-    let len : length vs ≡ length ws + 1 = ap length push ∙ length-append ws (0 ∷ []) in
-    let next : length vs - length first ≡ suc (length ws - length first) = omega (arith, len, more) in
-    push ∙ ap (λ l. l ++ 0 ∷ []) same ∙ sym (one-more first (length ws - length first)) ∙ ap (λ k. first ++ zeros k) (sym next)
+-- copies of 0 are ages of 0
+pub zeros-copies : (n : ℕ) → replicate n 0 ≡ zeros n
+zeros-copies zero = refl
+zeros-copies (suc n) = ap (λ l. 0 ∷ l) (zeros-copies n)
 
 -- all are written, and each has risen
 pub raised-items : (ws fs rs now : List ℕ) (count : ℕ) → ws ++ zeros (count - length ws) ≡ now → fs ≡ ws ++ zeros (count - length ws) → rs ≡ map older fs
@@ -130,3 +132,40 @@ raised-view ws fs rs now count view few filled raised =
     let all = raised-length ws fs rs now count view few filled raised in
     let none : count - length rs ≡ 0 = omega (arith, all) in
     ap (λ k. rs ++ zeros k) none ∙ append-nil rs ∙ raised-items ws fs rs now count view filled raised
+
+-- ---- the last age over a limit
+
+-- what is found among the written ages is found among all
+module _ (ws : List ℕ) (k limit end n : ℕ) (cut : n ≡ min end (length ws)) (few : end ≤ length ws + k) where
+  low : n ≤ length ws
+  low = omega (arith, cut)
+
+  size : length (take n ws) ≡ n
+  size = length-take-le n ws low
+
+  same : (j d : ℕ) → j < n → slice_index_or (ws ++ zeros k) j d ≡ slice_index_or (take n ws) j d
+  same j d less = get_or_append_left ws (zeros k) d j (omega (arith, low, less)) ∙ sym (get_or-take n ws j d less)
+
+  -- behind the written ages stands 0
+  young : (from : ℕ) → AllWithin (λ a. a ≤ limit) (take n ws) from (length (take n ws)) → AllWithin (λ a. a ≤ limit) (ws ++ zeros k) from end
+  young from all j d above below = elim (cases_lt j n) [
+    | inl less ↦ subst (λ a. a ≤ limit) (sym (same j d less)) (all j d above (omega (arith, size, less)))
+    | inr past ↦
+        let none : slice_index_or (ws ++ zeros k) j d ≡ 0 =
+        read_or (ws ++ zeros k) j 0 d (zero_past ws k j (omega (arith, cut, past, below)) (omega (arith, few, below))) in
+        subst (λ a. a ≤ limit) (sym none) (omega arith)
+  ]
+
+  pub over_there : (found : Option ℕ) → IsLastOver limit (take n ws) (length (take n ws)) found → IsLastOver limit (ws ++ zeros k) end found
+  over_there None all = young 0 all
+  over_there (Some index) is =
+      let inside : index < n = (let before = is.before in omega (arith, size, before)) in
+      let all = length-all ws k in
+      record {
+        age = is.age;
+        here = slice_get-get_or (ws ++ zeros k) index 0 (omega (arith, inside, low, all))
+            ∙ ap Some (same index 0 inside ∙ read_or (take n ws) index is.age 0 is.here);
+        over = is.over;
+        before = omega (arith, inside, cut);
+        later = young (index + 1) is.later;
+      }

@@ -1,12 +1,14 @@
 -- Values in one list and their ages in another, seen as one list of entries.
-use Rattle.lucid_store.proofs.Common.{◌≡◌, ℕ, zero, suc, ◌+◌, ◌-◌, ◌≤◌, ◌<◌, Bool, true, false, cond, List, [], ◌∷◌, ◌++◌, length, map, Option, Some, None, is_some, position, slice_get, refl, ap, sym, subst, ◌∙◌, arith, slice_set, option_map, option_and_then, slice_get-map, AllWithin, swap_remove, lookup, Value, Key, Entry, same_key, beside, ages_of, value_in, Sets, renewed, older, within, swept, same_key_is_equality, same_key_equiv, ◌==◌, nat_le, nat_tests, slice_get_within, get_or_from_slice_get, IsDistinct, position_or_len, option_to_list, lookup_key, keys_of, values_of}
-use Rattle.std.proofs.Common.{◌≢◌, slice_index_or}
+use Rattle.lucid_store.proofs.Common.{◌≡◌, ℕ, zero, suc, ◌+◌, ◌-◌, ◌≤◌, ◌<◌, Bool, true, false, cond, List, [], ◌∷◌, ◌++◌, length, map, Option, Some, None, is_some, position, slice_get, refl, ap, sym, subst, ◌∙◌, arith, slice_set, option_map, option_and_then, slice_get-map, AllWithin, swap_remove, lookup, Value, Key, Entry, same_key, beside, ages_of, value_in, Sets, renewed, older, within, swept, same_key_is_equality, same_key_equiv, ◌==◌, nat_le, nat_tests, slice_get_within, IsDistinct, position_or_len, option_to_list, lookup_key, keys_of, values_of}
+use Rattle.std.proofs.Common.{◌≢◌, slice_index_or, inl, inr}
+use Rattle.std.proofs.lemmas.Bool.{cases_lt}
 use Rattle.std.specs.Option.{IsSome}
 use Rattle.indexmap.specs.IndexMap.{insert_entry}
 use Rattle.indexmap.proofs.SetLemmas.{map-swap_remove}
 use Rattle.indexmap.specs.IndexMap.{set_value_at}
 use Rattle.indexmap.proofs.MapLemmas.{index-first, swap_remove-default, insert_entry-first, insert_entry-absent, absent_from_lookup, Found-position, some_index, or_len-first}
 use Rattle.indexmap.proofs.RemoveLemmas.{own_first, popped_last, swap_out}
+use Rattle.lucid_store.specs.Ages.{IsOverAt}
 use Rattle.lucid_store.specs.Beside.{place_of}
 use Rattle.lucid_store.specs.Entries.{fresh, aged}
 
@@ -391,14 +393,20 @@ age_placed k l i a at age =
     ∙ age in
     (p.0.1, found.value ∙ value, cc)
 
--- an age more within a limit
-pub more_within : (ages : List ℕ) (i n most a : ℕ) → slice_get ages i ≡ Some a → a ≤ most → AllWithin (λ age. age ≤ most) ages (i + 1) n
-    → AllWithin (λ age. age ≤ most) ages i n
-more_within ages i n most a at le all j d low high = by (j == i) refl
-  where
-    by : (t : Bool) → (j == i) ≡ t → slice_index_or ages j d ≤ most
-    by true t = let here : i ≡ j = grind (arith, nat_tests) in
-        subst (λ x. slice_index_or ages x d ≤ most) here (subst (λ x. x ≤ most) (sym (get_or_from_slice_get ages i a d at)) le)
-    by false t = let above : i + 1 ≤ j = grind (arith, nat_tests) in all j d above high
+-- the ages of entries, as they lie beside them
+pub ages_seen : (es : List (Key × Value)) (ages : List ℕ) (l : List (Key × Entry)) → length ages ≡ length es → beside es ages ≡ l → ages ≡ ages_of l
+ages_seen es ages l same view = sym (ages-beside es ages same) ∙ ap ages_of view
+
+-- none is over the limit up to an end, and none from there on
+pub joined_within : (limit from end n : ℕ) (ages : List ℕ) → AllWithin (λ age. age ≤ limit) ages from end → AllWithin (λ age. age ≤ limit) ages end n
+    → AllWithin (λ age. age ≤ limit) ages from n
+joined_within limit from end n ages before behind k d low high = elim (cases_lt k end) [ inl below ↦ before k d low below | inr past ↦ behind k d past high ]
+
+-- the last entry that is over the limit goes
+pub last_goes : (limit end index : ℕ) (old new : List (Key × Entry)) (k : Key) → IsOverAt limit (ages_of old) end index → place_of old k ≡ Some index
+    → Sets old new k None → (q : Key) → option_and_then (within limit) (lookup (same_key q) new) ≡ option_and_then (within limit) (lookup (same_key q) old)
+last_goes limit end index old new k found at sets =
+    let x = age_placed k old index found.age at found.here in
+    over_goes limit old new k x.0 sets x.1 (subst (λ n. limit < n) (sym x.2) found.over)
 
 -- ---- touches

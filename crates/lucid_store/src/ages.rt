@@ -3,7 +3,7 @@
 ghost use Rattle.std.specs.Prelude.{◌≡◌, ℕ, ◌+◌, ◌-◌, ◌<◌, ◌≤◌, ◌++◌, ◌∷◌, [], Some, OnOk, OnErr, length, map, take, slice_set, slice_get, slice_index_or};
 ghost use Rattle.std.specs.List.{swap_remove};
 ghost use Rattle.std.specs.Vec.{vec_capacity};
-ghost use Rattle.lucid_store.specs.Ages.{zeros};
+ghost use Rattle.lucid_store.specs.Ages.{zeros, IsLastOver};
 ghost use Rattle.lucid_store.specs.Entries.{older};
 
 use std::alloc::{AllocError, Global};
@@ -66,11 +66,9 @@ fn fill(written: &mut Vec<u32>, count: usize)
     ensures items { written.new.items ≡ written.old.items ++ zeros (count - length written.old.items) }
     ensures room { vec_capacity written.old ≤ vec_capacity written.new }
 {
-    while written.len() < count {
-        match written.push(0) {
-            Ok(()) => (),
-            Err(_) => unreachable!(),
-        }
+    match written.resize(count, 0) {
+        Ok(()) => (),
+        Err(_) => unreachable!(),
     }
 }
 
@@ -89,6 +87,18 @@ fn raise_written(written: &mut Vec<u32>)
     ensures room { vec_capacity written.new ≡ vec_capacity written.old }
 {
     raise_all(written.as_mut_slice());
+}
+
+// The last place whose age is over the limit.
+fn last_over(ages: &[u32], limit: u32) -> Option<usize>
+    ensures { IsLastOver limit ages.now (length ages.now) result }
+{
+    for index in (0..ages.len()).rev() {
+        if ages[index] > limit {
+            return Some(index);
+        }
+    }
+    None
 }
 
 impl Ages {
@@ -172,6 +182,15 @@ impl Ages {
     {
         fill(&mut self.written, self.count);
         raise_written(&mut self.written);
+    }
+
+    /// The last place before an end whose age is over the limit.
+    pub(crate) fn last_over(&self, end: usize, limit: u32) -> Option<usize>
+        requires { end ≤ length self.now }
+        ensures { IsLastOver limit self.now end result }
+    {
+        let end = end.min(self.written.len());
+        last_over(&self.written[..end], limit)
     }
 
     /// No ages are left.

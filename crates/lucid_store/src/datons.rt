@@ -167,10 +167,10 @@ impl Datons {
         ensures count { length self.new ≤ length self.old }
     {
         // From the end, so that the entry that takes a removed one's place was looked at before.
-        for index in (0..self.len()).rev() {
-            if self.ages.at(index) > limit {
-                self.remove(index);
-            }
+        let mut end = self.len();
+        while let Some(index) = self.ages.last_over(end, limit) {
+            self.remove(index);
+            end = index;
         }
     }
 

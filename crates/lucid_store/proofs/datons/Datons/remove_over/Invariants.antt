@@ -5,7 +5,10 @@ use Rattle.lucid_store.proofs.datons.Datons.remove_over.Given as goal
 abbrev pub invariant-loop-index : goal.invariant-loop-index
 invariant-loop-index l = record {
   each : (q : Key) → option_and_then (within l.limit) (lookup (same_key q) l.self) ≡ option_and_then (within l.limit) (lookup (same_key q) l.initial.self);
-  later : AllWithin (λ age. age ≤ l.limit) (ages_of l.self) l.index (length l.self);
-  inside : l.index ≤ length l.self;
+  later : AllWithin (λ age. age ≤ l.limit) (ages_of l.self) l.end (length l.self);
+  inside : l.end ≤ length l.self;
   count : length l.self ≤ length l.initial.self;
 }
+
+abbrev pub decreases-loop-index : goal.decreases-loop-index
+decreases-loop-index l = l.end
