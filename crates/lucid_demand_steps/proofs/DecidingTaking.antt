@@ -139,7 +139,7 @@ module _ (T : Table) (known : List Context) (forest : List (Option TaskRow)) (sl
       let it : MayTake f r step.Nothing = subst (MayTake f r) e may in inl (comes nothing it.leads)
 
   -- a form that a row has doesn't only move the point
-  is_still : IsStill f r
+  pub is_still : IsStill f r
   is_still i u s e low =
       none-some (record r.task { node = get_or parts i 0; time = u; space = s })
       (sym own.ready.still ∙ ap (moved_by T r.task) own.form

@@ -55,4 +55,5 @@ mod Passes
 pub mod SearchForms
 mod Starting
 mod DecidingTaking
+mod Unmoved
 mod Within

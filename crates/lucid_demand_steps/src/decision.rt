@@ -285,12 +285,19 @@ pub fn decide(program: &Program, tasks: &Tasks, slot: usize) -> Decision
         Node::Const { constant } => Decision::Constant { constant },
         Node::Input { stream } => ready.read(stream),
         Node::Apply { op, args } => ready.apply(program, tasks, op, args),
+        Node::If { test, yes, no } => ready.stream(tasks, Form::If, &[test, yes, no]),
+        Node::And { left, right } => ready.stream(tasks, Form::And, &[left, right]),
+        Node::Or { left, right } => ready.stream(tasks, Form::Or, &[left, right]),
+        Node::Whenever { left, right } => ready.stream(tasks, Form::Whenever, &[left, right]),
+        Node::Asa { left, right } => ready.stream(tasks, Form::Asa, &[left, right]),
+        Node::Upon { left, right } => ready.stream(tasks, Form::Upon, &[left, right]),
+        Node::Attime { left, right } => ready.stream(tasks, Form::Attime, &[left, right]),
+        Node::Atspace { left, right } => ready.stream(tasks, Form::Atspace, &[left, right]),
         Node::Refer { .. } | Node::Call { .. } => ready.refer(tasks),
-        // A frozen time is passed before a row is made.
+        // What only moves the point is passed before a row is made, so these stand at the last time or space.
+        Node::Next { .. } | Node::Succ { .. } => Decision::Fault,
+        Node::First { .. } | Node::Fby { .. } => unreachable!(),
+        Node::Initial { .. } | Node::Sby { .. } => unreachable!(),
         Node::Freeze { .. } => unreachable!(),
-        _ => match node.read() {
-            Some((form, parts)) => ready.stream(tasks, form, parts.as_slice()),
-            None => unreachable!(),
-        },
     }
 }

@@ -1,9 +1,12 @@
-use Rattle.lucid_demand_steps.proofs.DecidingCommon.{ℕ, List, sym, ap, ◌∙◌, subst, node_by, NodeIsInRange, sizes}
-use Rattle.std.proofs.Common.{Some}
+use Rattle.lucid_demand_steps.proofs.DecidingCommon.{[], ◌∷◌, ap, ◌∙◌, subst, node_by, NodeIsInRange, sizes}
+use Rattle.std.proofs.Common.{Some, inl, inr}
+use Rattle.lucid_tree.specs.declared.form.Form.TheVariants as forms
 use Rattle.lucid_equations.specs.Programs.{table_of}
+use Rattle.lucid_equations.specs.Rows.{read}
 use Rattle.lucid_demand_steps.proofs.Deciding.{its_ready}
-use Rattle.lucid_demand_steps.proofs.FormNodes.{form_count, form_row, is_read}
+use Rattle.lucid_demand_steps.proofs.FormNodes.{form_row}
 use Rattle.lucid_demand_steps.proofs.Leaves.{constant_decides}
+use Rattle.lucid_demand_steps.proofs.Unmoved.{next_ends, succ_ends, no_first, no_fby, no_initial, no_sby}
 use Rattle.lucid_demand_steps.proofs.decision.decide.Goals as goal
 
 pub returns-in-Const : goal.returns-in-Const
@@ -13,18 +16,83 @@ returns-in-Const g c = λ its there.
     (c.node-node.ensures.row ∙ ap Some c.in-Const.is) (c.node-node.ensures.meaning ∙ ap (node_by (table_of c.args.program.now)) c.in-Const.is)
     (subst (NodeIsInRange (sizes (table_of c.args.program.now)) c.task-task.result.node) c.in-Const.is c.node-node.ensures.in_range)
 
-pub stream-requires-clause-count : goal.stream-requires-clause-count
-stream-requires-clause-count g c = form_count (table_of c.args.program.now) c.node-node.result c.in-Some.form c.as_slice.result.now (sym c.in-Some.ensures ∙ ap (λ (xs : List ℕ). Some (c.in-Some.form, xs)) (sym c.as_slice.ensures))
-
-pub returns-in-Some : goal.returns-in-Some
-returns-in-Some g c = λ its there.
+pub returns-in-If : goal.returns-in-If
+returns-in-If g c = λ its there.
     c.stream.ensures (table_of c.args.program.now) g.known its
-    (form_row (table_of c.args.program.now) g.known c.args.tasks.now c.args.slot c.task-task.result its c.node-node.result c.in-Some.form
-    c.as_slice.result.now
-    (its_ready (table_of c.args.program.now) g.known c.args.tasks.now c.args.slot c.requires its there c.task-task.result c.task-task.ensures)
-    c.node-node.ensures.row c.node-node.ensures.meaning (sym c.in-Some.ensures ∙ ap (λ (xs : List ℕ). Some (c.in-Some.form, xs)) (sym c.as_slice.ensures)))
+    (form_row (table_of c.args.program.now) g.known c.args.tasks.now c.args.slot c.requires c.task-task.result c.task-task.ensures c.node-node.result
+    c.node-node.ensures.row c.node-node.ensures.meaning forms.If (c.in-If.test ∷ c.in-If.yes ∷ c.in-If.no ∷ []) (ap read c.in-If.is) its there)
 
-pub unreachable-requires-in-None : goal.unreachable-requires-in-None
-unreachable-requires-in-None g c =
-    is_read c.node-node.result c.in_default.not-Const c.in_default.not-Input c.in_default.not-Apply c.in_default.not-Freeze c.in_default.not-Refer
-    c.in_default.not-Call (sym c.in-None.ensures)
+pub returns-in-And : goal.returns-in-And
+returns-in-And g c = λ its there.
+    c.stream-in-And.ensures (table_of c.args.program.now) g.known its
+    (form_row (table_of c.args.program.now) g.known c.args.tasks.now c.args.slot c.requires c.task-task.result c.task-task.ensures c.node-node.result
+    c.node-node.ensures.row c.node-node.ensures.meaning forms.And (c.in-And.left ∷ c.in-And.right ∷ []) (ap read c.in-And.is) its there)
+
+pub returns-in-Or : goal.returns-in-Or
+returns-in-Or g c = λ its there.
+    c.stream-in-Or.ensures (table_of c.args.program.now) g.known its
+    (form_row (table_of c.args.program.now) g.known c.args.tasks.now c.args.slot c.requires c.task-task.result c.task-task.ensures c.node-node.result
+    c.node-node.ensures.row c.node-node.ensures.meaning forms.Or (c.in-Or.left ∷ c.in-Or.right ∷ []) (ap read c.in-Or.is) its there)
+
+pub returns-in-Whenever : goal.returns-in-Whenever
+returns-in-Whenever g c = λ its there.
+    c.stream-in-Whenever.ensures (table_of c.args.program.now) g.known its
+    (form_row (table_of c.args.program.now) g.known c.args.tasks.now c.args.slot c.requires c.task-task.result c.task-task.ensures c.node-node.result
+    c.node-node.ensures.row c.node-node.ensures.meaning forms.Whenever (c.in-Whenever.left ∷ c.in-Whenever.right ∷ []) (ap read c.in-Whenever.is) its there)
+
+pub returns-in-Asa : goal.returns-in-Asa
+returns-in-Asa g c = λ its there.
+    c.stream-in-Asa.ensures (table_of c.args.program.now) g.known its
+    (form_row (table_of c.args.program.now) g.known c.args.tasks.now c.args.slot c.requires c.task-task.result c.task-task.ensures c.node-node.result
+    c.node-node.ensures.row c.node-node.ensures.meaning forms.Asa (c.in-Asa.left ∷ c.in-Asa.right ∷ []) (ap read c.in-Asa.is) its there)
+
+pub returns-in-Upon : goal.returns-in-Upon
+returns-in-Upon g c = λ its there.
+    c.stream-in-Upon.ensures (table_of c.args.program.now) g.known its
+    (form_row (table_of c.args.program.now) g.known c.args.tasks.now c.args.slot c.requires c.task-task.result c.task-task.ensures c.node-node.result
+    c.node-node.ensures.row c.node-node.ensures.meaning forms.Upon (c.in-Upon.left ∷ c.in-Upon.right ∷ []) (ap read c.in-Upon.is) its there)
+
+pub returns-in-Attime : goal.returns-in-Attime
+returns-in-Attime g c = λ its there.
+    c.stream-in-Attime.ensures (table_of c.args.program.now) g.known its
+    (form_row (table_of c.args.program.now) g.known c.args.tasks.now c.args.slot c.requires c.task-task.result c.task-task.ensures c.node-node.result
+    c.node-node.ensures.row c.node-node.ensures.meaning forms.Attime (c.in-Attime.left ∷ c.in-Attime.right ∷ []) (ap read c.in-Attime.is) its there)
+
+pub returns-in-Atspace : goal.returns-in-Atspace
+returns-in-Atspace g c = λ its there.
+    c.stream-in-Atspace.ensures (table_of c.args.program.now) g.known its
+    (form_row (table_of c.args.program.now) g.known c.args.tasks.now c.args.slot c.requires c.task-task.result c.task-task.ensures c.node-node.result
+    c.node-node.ensures.row c.node-node.ensures.meaning forms.Atspace (c.in-Atspace.left ∷ c.in-Atspace.right ∷ []) (ap read c.in-Atspace.is) its there)
+
+pub returns-in-Next : goal.returns-in-Next
+returns-in-Next g c = λ its there.
+    elim c.in-Next.is [
+      | inl p ↦ next_ends (table_of c.args.program.now) g.known c.args.tasks.now c.args.slot c.task-task.result its (p.0 ∷ [])
+          (form_row (table_of c.args.program.now) g.known c.args.tasks.now c.args.slot c.requires c.task-task.result c.task-task.ensures c.node-node.result
+          c.node-node.ensures.row c.node-node.ensures.meaning forms.Next (p.0 ∷ []) (ap read p.1) its there)
+      | inr p ↦ succ_ends (table_of c.args.program.now) g.known c.args.tasks.now c.args.slot c.task-task.result its (p.0 ∷ [])
+          (form_row (table_of c.args.program.now) g.known c.args.tasks.now c.args.slot c.requires c.task-task.result c.task-task.ensures c.node-node.result
+          c.node-node.ensures.row c.node-node.ensures.meaning forms.Succ (p.0 ∷ []) (ap read p.1) its there)
+    ]
+
+pub unreachable-requires : goal.unreachable-requires
+unreachable-requires g c =
+    elim c.in-First.is [
+      | inl p ↦ no_first (table_of c.args.program.now) g.known c.args.tasks.now c.args.slot c.task-task.result c.requires.row (p.0 ∷ [])
+          (form_row (table_of c.args.program.now) g.known c.args.tasks.now c.args.slot c.requires c.task-task.result c.task-task.ensures c.node-node.result
+          c.node-node.ensures.row c.node-node.ensures.meaning forms.First (p.0 ∷ []) (ap read p.1) c.requires.row c.requires.is.there)
+      | inr p ↦ no_fby (table_of c.args.program.now) g.known c.args.tasks.now c.args.slot c.task-task.result c.requires.row (p.0 ∷ p.1 ∷ [])
+          (form_row (table_of c.args.program.now) g.known c.args.tasks.now c.args.slot c.requires c.task-task.result c.task-task.ensures c.node-node.result
+          c.node-node.ensures.row c.node-node.ensures.meaning forms.Fby (p.0 ∷ p.1 ∷ []) (ap read p.2) c.requires.row c.requires.is.there)
+    ]
+
+pub unreachable-requires-in-Initial : goal.unreachable-requires-in-Initial
+unreachable-requires-in-Initial g c =
+    elim c.in-Initial.is [
+      | inl p ↦ no_initial (table_of c.args.program.now) g.known c.args.tasks.now c.args.slot c.task-task.result c.requires.row (p.0 ∷ [])
+          (form_row (table_of c.args.program.now) g.known c.args.tasks.now c.args.slot c.requires c.task-task.result c.task-task.ensures c.node-node.result
+          c.node-node.ensures.row c.node-node.ensures.meaning forms.Initial (p.0 ∷ []) (ap read p.1) c.requires.row c.requires.is.there)
+      | inr p ↦ no_sby (table_of c.args.program.now) g.known c.args.tasks.now c.args.slot c.task-task.result c.requires.row (p.0 ∷ p.1 ∷ [])
+          (form_row (table_of c.args.program.now) g.known c.args.tasks.now c.args.slot c.requires c.task-task.result c.task-task.ensures c.node-node.result
+          c.node-node.ensures.row c.node-node.ensures.meaning forms.Sby (p.0 ∷ p.1 ∷ []) (ap read p.2) c.requires.row c.requires.is.there)
+    ]
