@@ -1,5 +1,0 @@
-use Rattle.lucid_show_command.proofs.Whole.{equations_whole}
-use Rattle.lucid_show_command.proofs.laws.equations_are_whole.Goals as goal
-
-pub returns : goal.returns
-returns c = equations_whole

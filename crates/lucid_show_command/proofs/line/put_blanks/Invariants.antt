@@ -1,6 +1,0 @@
-use Rattle.std.proofs.Common.{◌≡◌, ◌++◌, replicate}
-use Rattle.lucid_show_command.proofs.line.put_blanks.Given as goal
-
--- so many blanks are appended
-abbrev pub invariant-loop-blank : goal.invariant-loop-blank
-invariant-loop-blank l = l.to.items ≡ l.initial.to.items ++ replicate l._blank 32

@@ -1,9 +1,0 @@
-pub mod Pieces
-pub mod Values
-pub mod Views
-pub mod Asked
-pub mod Tests
-pub mod Runs
-pub mod Equations
-pub mod Lines
-pub mod Laws

@@ -1,0 +1,10 @@
+pub mod Pieces
+pub mod Values
+pub mod Views
+pub mod Asked
+pub mod Tests
+pub mod Runs
+pub mod Equations
+pub mod Chosen
+pub mod Lines
+pub mod Laws
