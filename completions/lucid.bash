@@ -1,4 +1,4 @@
-# Completion of the words of lucid in bash. In ~/.bashrc: . FOLDER/completions/lucid.bash
+# Completion of the words of lucid, lucid_explain and lucid_show in bash. In ~/.bashrc: . FOLDER/completions/lucid.bash
 
 # The input names of the program in the file $2 that the command $1 finds, each with a `=` behind it.
 _lucid_inputs() {
@@ -8,6 +8,9 @@ _lucid_inputs() {
 _lucid() {
     local options='--count --depth --policy --age --room --stats --print --columns --cycles --why --check --flat --from-flat --make'
     local current=${COMP_WORDS[COMP_CWORD]} before=${COMP_WORDS[COMP_CWORD - 1]} program='' is_value='' i
+    if [[ ${1##*/} == lucid_show ]]; then
+        options='--at --depth --names --cells'
+    fi
     COMPREPLY=()
     # bash parts words at `=`
     if [[ $current == '=' ]]; then
@@ -19,7 +22,7 @@ _lucid() {
         --policy)
             mapfile -t COMPREPLY < <(compgen -W 'keep none age last' -- "$current")
             return ;;
-        --count | --depth | --age | --room | --columns | --why | --make)
+        --at | --names | --cells | --count | --depth | --age | --room | --columns | --why | --make)
             return ;;
         --check)
             is_value=yes ;;
@@ -27,7 +30,7 @@ _lucid() {
     # the first word that is no option and no option's value
     for ((i = 1; i < COMP_CWORD; i++)); do
         case ${COMP_WORDS[i]} in
-            --count | --depth | --policy | --age | --room | --columns | --why | --check | --make)
+            --at | --names | --cells | --count | --depth | --policy | --age | --room | --columns | --why | --check | --make)
                 if [[ ${COMP_WORDS[i + 1]} == '=' ]]; then i=$((i + 2)); else i=$((i + 1)); fi ;;
             -*) ;;
             *)
@@ -38,7 +41,7 @@ _lucid() {
     if [[ -z $is_value && $current == -* ]]; then
         mapfile -t COMPREPLY < <(compgen -W "$options" -- "$current")
     elif [[ -z $is_value && -n $program ]]; then
-        mapfile -t COMPREPLY < <(compgen -W "$(_lucid_inputs "${COMP_WORDS[0]}" "$program")" -- "$current")
+        mapfile -t COMPREPLY < <(compgen -W "$(_lucid_inputs "${COMP_WORDS[0]%_show}" "$program")" -- "$current")
         compopt -o nospace 2>/dev/null
     else
         mapfile -t COMPREPLY < <(compgen -f -- "$current")
@@ -47,4 +50,4 @@ _lucid() {
     return 0
 }
 
-complete -F _lucid lucid lucid_explain
+complete -F _lucid lucid lucid_explain lucid_show

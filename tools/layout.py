@@ -8,7 +8,7 @@ import sys
 TOP = os.path.dirname(os.path.dirname(os.path.abspath(__file__)))
 
 # The commands: each is built from the crate of its name, and has a page in man/ and its words in completions/. A new one is added here.
-COMMANDS = ("lucid", "lucid_explain")
+COMMANDS = ("lucid", "lucid_explain", "lucid_show")
 
 # The scripts that are installed as commands, each under its name there.
 SCRIPTS = {"lucid_exercise": "tools/exercise"}

@@ -126,12 +126,20 @@ class Run:
         child = self.start(words, limits, **how)
         return self.ended(child, words, given if how["stdin"] == subprocess.PIPE else None, seconds)
 
-    def explaining(self):
-        """The same folder with the command that explains its reports, which stands beside the other."""
-        command = os.path.join(os.path.dirname(self.command), "lucid_explain")
+    def beside(self, name):
+        """The same folder with another command, which stands beside this one."""
+        command = os.path.join(os.path.dirname(self.command), name)
         if not os.path.isfile(command):
-            raise Skipped("built command lucid_explain")
+            raise Skipped(f"built command {name}")
         return Run(command, self.top, self.room)
+
+    def explaining(self):
+        """The same folder with the command that explains its reports."""
+        return self.beside("lucid_explain")
+
+    def showing(self):
+        """The same folder with the command that shows a demand."""
+        return self.beside("lucid_show")
 
     def ended(self, child, words=(), given=None, seconds=None):
         """Waits for the end of a call."""

@@ -9,6 +9,7 @@ A fence is what its first line says, in a form that pandoc reads too:
   ```{.output status=N}          the same of a program that ends with status N, which isn't 0
   ```report                      what it writes on the standard error
   ```explained                   what `lucid_explain` writes there with the same words
+  ```{.shown words="WORDS"}      what `lucid_show` writes of the program above it with these words
   ```{.antt file=FILE}           the file of definitions, whole but for its first comment and the lines that import names
 
 The first lines `lucid WORDS`, `output N`, `input NAME` and `antt FILE` are read as well, though not by pandoc. All other fences are
@@ -72,6 +73,7 @@ class Shown:
     def __init__(self, fence, inputs):
         self.source, self.words, self.at, self.above = fence.text, shlex.split(fence.words), fence.at, fence.above
         self.inputs, self.out, self.status, self.report, self.explained = dict(inputs), None, 0, None, None
+        self.shown = []
 
 
 def programs(page):
@@ -84,6 +86,9 @@ def programs(page):
             found.append(Shown(it, inputs))
         elif it.kind == "input":
             inputs[it.words] = it.text
+        elif it.kind == "shown":
+            check(found, f"line {it.at}: no program stands before it")
+            found[-1].shown.append((shlex.split(it.words), it.text))
         elif it.kind in ("output", "report", "explained"):
             check(found, f"line {it.at}: no program stands before it")
             kind = "out" if it.kind == "output" else it.kind
@@ -122,6 +127,8 @@ def one(name, shown_program):
         run.lucid("program.lucid", *it.words, given=it.inputs.get("-", "")).must(it.out, it.status, it.report)
         if it.explained is not None:
             run.explaining().lucid("program.lucid", *it.words, given=it.inputs.get("-", "")).must(it.out, it.status, it.explained)
+        for words, text in it.shown:
+            run.showing().lucid("program.lucid", *words, given=it.inputs.get("-", "")).must(text)
     return Case(f"{name} line {shown_program.at}", work)
 
 

@@ -1,0 +1,71 @@
+-- What words ask for, from what `clap` answers to them.
+use Rattle.lucid_show_command.proofs.Common.{◌≡◌, ◌≢◌, Some, true, List, [], ◌∷◌, Option, None, refl, sym, ap, subst, ◌∙◌, inl, inr}
+use Rattle.clap.specs.declared.parser.matches.ArgMatches.{ArgMatches}
+use Rattle.clap.specs.Words.{App, HasKind, HasMatchesOf, IsAmong, Kinds, Text, fault_of, found_of, is_simple, is_simple_and_free, kind_of, matches_of, rows_of}
+use Rattle.clap.specs.declared.error.Error.{Error}
+use Rattle.clap.specs.declared.error.kind.ErrorKind.{ErrorKind}
+use Rattle.clap.specs.declared.error.kind.ErrorKind.TheVariants.{OutOfMemory}
+use Rattle.std.specs.Prelude.{Bool, false, if◌then◌else◌}
+use Rattle.lucid_words.specs.Asked.{PlainWords, where_taken}
+use Rattle.lucid_top.specs.declared.task.Task.{Task}
+use Rattle.lucid_top.specs.declared.task.Task.TheVariants.{Why}
+use Rattle.lucid_top.specs.Tasks.{task_of}
+use Rattle.lucid_show_command.specs.Words.{asked, for_certificate, is_why, of_words, show_command, words_shown}
+
+-- words that ask for a certificate, and others
+pub for_why : (w : PlainWords) → is_why (task_of w) ≡ true → for_certificate w ≡ Some w
+for_why w is = ap (λ (b : Bool). if b then Some w else None) is
+
+pub for_other : (w : PlainWords) → is_why (task_of w) ≡ false → for_certificate w ≡ None
+for_other w is = ap (λ (b : Bool). if b then Some w else None) is
+
+pub why_is : (t : Task) → is_why t ≡ true → t ≡ Why
+unfolding is_why
+why_is Why is = refl
+why_is _ is = cc
+
+-- what is asked for, where there are words for a certificate and names
+pub of_both : (asked : Option PlainWords) (names : Option (List Text)) (w : PlainWords) (ns : List Text) → asked ≡ Some w → names ≡ Some ns
+    → of_words asked names ≡ Some (record { words = w; names = ns })
+of_both asked names w ns is are = (λ j. of_words (is j) (are j))
+
+pub of_no_words : (asked : Option PlainWords) (names : Option (List Text)) → asked ≡ None → of_words asked names ≡ None
+of_no_words asked names is = ap (λ (o : Option PlainWords). of_words o names) is
+
+pub of_no_names : (asked : Option PlainWords) (names : Option (List Text)) (w : PlainWords) → asked ≡ Some w → names ≡ None → of_words asked names ≡ None
+of_no_names asked names w is are = (λ j. of_words (is j) (are j))
+
+-- the command is one of which `clap` says what it takes
+is_simple_one : is_simple show_command ≡ true
+is_simple_one = refl
+
+is_free : is_simple_and_free show_command ≡ true
+is_free = refl
+
+where_none : {X : Type 0} (faults : Kinds) (answer : Option X) → faults ≡ [] → where_taken faults answer ≡ answer
+where_none [] answer none = refl
+where_none (k ∷ ks) answer none = cc
+
+where_some : {X : Type 0} (faults : Kinds) (answer : Option X) (k : ErrorKind) → IsAmong k faults → where_taken faults answer ≡ None
+where_some [] answer k among = absurd among
+where_some (x ∷ xs) answer k among = refl
+
+-- where the words are taken, they ask for what the rows ask for
+pub asked_at_ok : (app : App) (words : List Text) (m : ArgMatches) → app ≡ show_command → (is_simple_and_free app ≡ true → fault_of app words ≡ [])
+    → HasMatchesOf app words m → asked words ≡ words_shown (rows_of (found_of m))
+unfolding asked
+asked_at_ok app words m same no_fault matches =
+    let rows = subst (λ (a : App). rows_of (found_of m) ≡ matches_of a words) same (matches (ap is_simple same ∙ is_simple_one)).0 in
+    let none = subst (λ (a : App). fault_of a words ≡ []) same (no_fault (ap is_simple_and_free same ∙ is_free)) in
+    where_none (fault_of show_command words) (words_shown (matches_of show_command words)) none ∙ ap words_shown (sym rows)
+
+-- where they are refused but for memory, they ask for nothing
+pub asked_at_err : (app : App) (words : List Text) (error : Error) → app ≡ show_command → (is_simple_and_free app ≡ true → HasKind (fault_of app words) error)
+    → kind_of error ≢ OutOfMemory → asked words ≡ None
+unfolding asked
+asked_at_err app words error same kinds no_memory =
+    let kind = subst (λ (a : App). HasKind (fault_of a words) error) same (kinds (ap is_simple_and_free same ∙ is_free)) in
+    elim kind [
+      | inl memory ↦ absurd (no_memory memory)
+      | inr among ↦ where_some (fault_of show_command words) (words_shown (matches_of show_command words)) (kind_of error) among
+    ]

@@ -1,0 +1,11 @@
+use Rattle.lucid_show_command.proofs.Common.{refl, IfOk-weaker}
+use Rattle.lucid_words.proofs.Adds.{adds}
+use Rattle.lucid_show_command.proofs.words.with_options.Goals as goal
+
+-- each argument in turn
+pub returns : goal.returns
+returns c =
+    let after1 = adds _ _ _ _ _ c.in_ok-arg.ensures c.text_option.ensures.local c.text_option.ensures.rule refl in
+    let after2 = adds _ _ _ _ _ c.in_ok-arg-2.ensures c.text_option-2.ensures.local c.text_option-2.ensures.rule after1 in
+    let after3 = adds _ _ _ _ _ c.in_ok-arg-3.ensures c.text_option-3.ensures.local c.text_option-3.ensures.rule after2 in
+    IfOk-weaker c.arg-4.result _ _ (λ m added. adds _ _ _ _ _ added c.text_option-4.ensures.local c.text_option-4.ensures.rule after3) c.arg-4.ensures

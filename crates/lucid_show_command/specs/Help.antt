@@ -1,0 +1,24 @@
+-- The two words of the command that it doesn't share with `lucid`: each stands alone, and asks for a text.
+use Rattle.std.specs.Prelude.{ℕ, List, [], ◌∷◌, codes, Option, None, Some, if◌then◌else◌}
+use Rattle.clap.specs.Words.{Text}
+use Rattle.lucid_value.specs.Plain.{same_bytes}
+
+unfoldable pub help_text : List ℕ
+help_text = codes "lucid_show shows what a value of a pLucid program was computed from.\nusage: lucid_show [--at T] [--depth N] [--names LIST] [--cells N] PROGRAM [NAME=FILE]...\nPROGRAM is the name of a file with a program, as `n where n = 0 fby n + 1; end`.\nNAME=FILE gives the lines of a file as the values of an input of this name.\n--at T shows the value at time T: at time 4 where it isn't given.\n--depth N is the depth limit, from 1 to 1,000,000: 100,000 where it isn't given.\n--names LIST shows the lines of these names alone, parted by commas, as `f,g`.\n--cells N shows N lines at most below the first, from 1 to 1,000,000: 2,000 where it isn't given.\n`man lucid_show` tells how a line is read, and TUTORIAL.md teaches the language.\n"
+
+abbrev pub version_text : List ℕ
+version_text = codes "lucid_show 0.1.0\n"
+
+-- the text for which a word asks
+abbrev pub text_for : (word : Text) → Option (List ℕ)
+text_for word =
+    if same_bytes word (codes "--help") then Some help_text
+    else if same_bytes word (codes "--version") then Some version_text
+    else None
+
+-- the text for which words ask, the command's own name among them
+abbrev pub text_asked : (arguments : List Text) → Option (List ℕ)
+text_asked (own ∷ word ∷ []) = text_for word
+text_asked [] = None
+text_asked (own ∷ []) = None
+text_asked (own ∷ word ∷ other ∷ more) = None

@@ -1,0 +1,4 @@
+pub mod Words
+pub mod Shows
+pub mod Help
+pub mod Meant

@@ -1,0 +1,95 @@
+//! The command.
+ghost use Rattle.std.specs.Prelude.{◌≡◌, drop, map};
+ghost use Rattle.std.specs.String.{string_bytes};
+ghost use Rattle.lucid_ports.specs.Told.{told};
+ghost use Rattle.lucid_show_command.specs.Help.{text_asked};
+ghost use Rattle.lucid_show_command.specs.Words.{asked};
+ghost use Rattle.lucid_show_command.specs.Shows.{SaysOrShows, ShowsAsked, TellsRefused, TellsUsage};
+
+use crate::help::text_asked;
+use crate::showing::show;
+use crate::words::read_asked;
+use lucid_ports::{Places, PortFault, Sink, write_whole};
+use lucid_report::{Status, Stop, tell};
+use lucid_top::write_out;
+use lucid_words::WordsRefusal;
+use std::alloc::Global;
+
+const USAGE: &[u8] =
+    b"usage: lucid_show [--at T] [--depth N] [--names LIST] [--cells N] PROGRAM [NAME=FILE]...\n";
+
+// Reports that the words are refused. A fault of the report doesn't change the status.
+fn tell_usage<E: Sink>(report: &mut E) -> Status
+    ensures { TellsUsage result (told E.written E.faults E.late report.old) (told E.written E.faults E.late report.new) }
+{
+    match write_whole(report, USAGE) {
+        Ok(()) => Status::Usage,
+        Err(PortFault::Failed) => Status::Usage,
+        Err(PortFault::NoMemory) => Status::NoMemory,
+    }
+}
+
+// Reports why the words weren't read.
+fn tell_refused<E: Sink>(report: &mut E, refusal: WordsRefusal) -> Status
+    ensures { TellsRefused refusal result (told E.written E.faults E.late report.old) (told E.written E.faults E.late report.new) }
+{
+    match refusal {
+        WordsRefusal::Usage => tell_usage(report),
+        WordsRefusal::NoMemory => tell(report, &Err(Stop::NoMemory)),
+    }
+}
+
+/// Shows what the words ask for: writes to `out` what the value of the program at the time was computed from, and reports on `report` how it
+/// ended. The words are those after the command's own name.
+pub fn lucid_show<P: Places, K: Sink, E: Sink>(
+    alloc: Global,
+    words: &[String],
+    places: &mut P,
+    out: &mut K,
+    report: &mut E,
+) -> Status
+    requires { (P.world places.old).reached ≡ 0 }
+    ensures { ShowsAsked (P.world places.old) (P.world places.new) (told K.written K.faults K.late out.old) (told K.written K.faults K.late out.new)
+        (told E.written E.faults E.late report.old) (told E.written E.faults E.late report.new) result (asked (map string_bytes words.now)) }
+{
+    match read_asked(alloc, words) {
+        Ok(asked) => {
+            let outcome = show(alloc, &asked, places, out);
+            tell(report, &outcome)
+        }
+        Err(refusal) => tell_refused(report, refusal),
+    }
+}
+
+// The words after the command's own name.
+fn words_of(arguments: &[String]) -> &[String]
+    ensures { result.now ≡ drop 1 arguments.now }
+{
+    match arguments {
+        [_, words @ ..] => words,
+        [] => &[],
+    }
+}
+
+/// The same by all arguments of a command line, of which the first is the command's own name. With `--help` or `--version` alone it writes the
+/// text that these ask for.
+pub fn lucid_show_from_arguments<P: Places, K: Sink, E: Sink>(
+    alloc: Global,
+    arguments: &[String],
+    places: &mut P,
+    out: &mut K,
+    report: &mut E,
+) -> Status
+    requires { (P.world places.old).reached ≡ 0 }
+    ensures { SaysOrShows (P.world places.old) (P.world places.new) (told K.written K.faults K.late out.old) (told K.written K.faults K.late out.new)
+        (told E.written E.faults E.late report.old) (told E.written E.faults E.late report.new) result
+        (text_asked (map string_bytes arguments.now)) (asked (map string_bytes (drop 1 arguments.now))) }
+{
+    match text_asked(arguments) {
+        Some(text) => {
+            let outcome = write_out(text, out);
+            tell(report, &outcome)
+        }
+        None => lucid_show(alloc, words_of(arguments), places, out, report),
+    }
+}

@@ -1,0 +1,41 @@
+//! The two words of the command that it doesn't share with `lucid`.
+ghost use Rattle.std.specs.Prelude.{◌≡◌, map};
+ghost use Rattle.std.specs.String.{string_bytes};
+ghost use Rattle.std.specs.Option.{option_copied};
+ghost use Rattle.lucid_show_command.specs.Help.{help_text, text_for, text_asked};
+
+const HELP: &[u8] =
+    b"lucid_show shows what a value of a pLucid program was computed from.\nusage: lucid_show [--at T] [--depth N] [--names LIST] [--cells N] PROGRAM [NAME=FILE]...\nPROGRAM is the name of a file with a program, as `n where n = 0 fby n + 1; end`.\nNAME=FILE gives the lines of a file as the values of an input of this name.\n--at T shows the value at time T: at time 4 where it isn't given.\n--depth N is the depth limit, from 1 to 1,000,000: 100,000 where it isn't given.\n--names LIST shows the lines of these names alone, parted by commas, as `f,g`.\n--cells N shows N lines at most below the first, from 1 to 1,000,000: 2,000 where it isn't given.\n`man lucid_show` tells how a line is read, and TUTORIAL.md teaches the language.\n";
+
+const VERSION: &[u8] = b"lucid_show 0.1.0\n";
+
+// What the command does, and what its words are.
+#[tactic(auto, unfolding(crate::specs::Help::help_text))]
+fn help() -> &'static [u8]
+    ensures { result.now ≡ help_text }
+{
+    HELP
+}
+
+// The text for which a word asks.
+fn text_for(word: &[u8]) -> Option<&'static [u8]>
+    ensures { option_copied result ≡ text_for word.now }
+{
+    if word == b"--help".as_slice() {
+        Some(help())
+    } else if word == b"--version".as_slice() {
+        Some(VERSION)
+    } else {
+        None
+    }
+}
+
+/// The text for which the arguments of a command line ask, of which the first is the command's own name: with `--help` or `--version` alone.
+pub(crate) fn text_asked(arguments: &[String]) -> Option<&'static [u8]>
+    ensures { option_copied result ≡ text_asked (map string_bytes arguments.now) }
+{
+    match arguments {
+        [_, word] => text_for(word.as_bytes()),
+        _ => None,
+    }
+}

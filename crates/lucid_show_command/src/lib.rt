@@ -1,0 +1,10 @@
+//! The command that shows a demand: its words, and how what a value was computed from is shown.
+#![tactic(auto)]
+
+pub use crate::command::{lucid_show, lucid_show_from_arguments};
+
+mod command;
+mod help;
+pub mod laws;
+mod showing;
+mod words;

@@ -1,0 +1,59 @@
+//! Showing a value of a program.
+ghost use Rattle.std.specs.Prelude.{◌≡◌, IfOk};
+ghost use Rattle.lucid_scope.specs.Scoped.{scoped_tree, scoped_inputs};
+ghost use Rattle.lucid_equations.specs.Programs.{table_of};
+ghost use Rattle.lucid_compile.specs.Settled.{table_of as tree_table};
+ghost use Rattle.lucid_ports.specs.Told.{told};
+ghost use Rattle.lucid_top.specs.Coming.{MayBegin};
+ghost use Rattle.lucid_top.specs.declared.task.Task.{Task};
+ghost use Rattle.lucid_show_command.specs.Shows.{Draws, Shown};
+ghost use Rattle.lucid_show_command.specs.Words.{plain_wanted};
+
+use crate::words::Wanted;
+use lucid_cert_rules::read_why;
+use lucid_ports::{MemorySink, Places, Sink};
+use lucid_report::{Done, Stop};
+use lucid_show_outline::{Source, outline_text};
+use lucid_top::{Certified, make_why, write_out};
+use std::alloc::{AllocError, Global};
+
+// The outline of the certificate that these bytes are the text of, as it is wanted. There are no bytes but those that were written of a
+// certificate, so that they aren't read is for want of memory alone.
+fn text_of(
+    alloc: Global,
+    certified: &Certified,
+    certificate: &[u8],
+    wanted: &Wanted,
+) -> Result<Vec<u8>, AllocError>
+    requires { table_of certified.now.program ≡ tree_table (scoped_tree certified.now.scoped) (scoped_inputs certified.now.scoped) }
+    ensures { IfOk result (λ text. Draws (scoped_tree certified.now.scoped) (scoped_inputs certified.now.scoped) certificate.now (plain_wanted wanted.now) text.items) }
+{
+    let Ok(why) = read_why(alloc, certificate) else {
+        return Err(AllocError);
+    };
+    let source = Source::make(
+        alloc,
+        certified.program.table(),
+        certified.scoped.tree(),
+        &why,
+        &wanted.names,
+    )?;
+    outline_text(&source, wanted.words.options.count)
+}
+
+/// Shows what the value of the program that the words name was computed from, at the time that they ask for: of the names that are wanted, and
+/// as many lines as the count at most. It makes a certificate in memory and writes what it draws of that.
+pub(crate) fn show<P: Places, K: Sink>(
+    alloc: Global,
+    wanted: &Wanted,
+    places: &mut P,
+    out: &mut K,
+) -> Result<Done, Stop>
+    requires { MayBegin wanted.now.words Task.Why (P.world places.old) }
+    ensures { Shown (plain_wanted wanted.now) (P.world places.old) (P.world places.new) (told K.written K.faults K.late out.old) (told K.written K.faults K.late out.new) result }
+{
+    let mut made = MemorySink::make(alloc, usize::MAX, Vec::new(alloc));
+    let certified = make_why(alloc, &wanted.words, places, &mut made)?;
+    let text = text_of(alloc, &certified, made.written(), wanted)?;
+    write_out(&text, out)
+}
