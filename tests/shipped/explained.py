@@ -91,7 +91,7 @@ def bytes_that_are_no_text(run):
 @case
 def a_place_at_the_very_end(run):
     run.source("1 +\n")
-    text = "syntax at 4\np:2:1:\n\n^\nHere the source ends.\nWhat may stand here: a name, a number, `(`, `if`.\n"
+    text = "syntax at 4\np:2:1:\n\n^\nHere the source ends.\nWhat may stand here: a name, a number, `(`, `if`.\nAn expression is missing before this.\n"
     run.explaining().lucid("p").must("", 1, text)
 
 

@@ -2,7 +2,7 @@
 from harness import case, check, long_case, shown
 
 OTHER_BYTES = "Only in comments may other bytes stand than printable ASCII, tabs and line ends. A name has the letters a to z and A to Z, digits and `_`.\n"
-WHAT_MAY_STAND = "Here the source ends.\nWhat may stand here: a name, a number, `(`, `if`.\n"
+WHAT_MAY_STAND = "Here the source ends.\nWhat may stand here: a name, a number, `(`, `if`.\nAn expression is missing before this.\n"
 
 BYTES = [
     (b"\xff\x00\x1b[31m", "bad byte at 0\np:1:1:\n???[31m\n^\n" + OTHER_BYTES),

@@ -1,10 +1,14 @@
 -- What was probably meant at a place where the tokens go wrong: by the tokens about it, and by those that may stand there. Of the hints the first
--- that fits is said.
-use Rattle.std.specs.Prelude.{ℕ, List, [], ◌∷◌, length, map, take, Bool, false, not, ◌&&◌, ◌||◌, ◌==◌, codes, if◌then◌else◌}
+-- that fits is said. Those marked `unfoldable` are so that proofs of the others see their names alone.
+use Rattle.std.specs.Prelude.{ℕ, List, [], ◌∷◌, length, map, take, Bool, true, false, not, ◌&&◌, ◌||◌, ◌==◌, codes, if◌then◌else◌, Option, None, Some}
 use Rattle.std.specs.List.{list_any, prefix_len}
 use Rattle.std.specs.Char.{is_ascii_alphabetic, is_ascii_digit, to_ascii_lowercase}
 use Rattle.lucid_value.specs.Plain.{same_bytes}
 use Rattle.lucid_value.specs.Names.{is_reserved}
+use Rattle.lucid_ops.specs.declared.op.Form.{Form}
+use Rattle.lucid_ops.specs.declared.op.Form.TheVariants.{Between, Before, Called}
+use Rattle.lucid_parse.specs.declared.operator.Operator.{Operator}
+use Rattle.lucid_parse.specs.Operators.{row_of, spelled}
 use Rattle.lucid_explain_places.specs.declared.candidates.Candidate.{Candidate}
 use Rattle.lucid_explain_places.specs.Positions.{ends_line, stands_in_line}
 use Rattle.lucid_explain_places.specs.Around.{PlainAround}
@@ -79,28 +83,34 @@ is_behind_parameter those = has (codes ")") those && not (has (codes "+") those)
 -- a parenthesis that is open
 abbrev pub open_hint : (read : List ℕ) → List ℕ
 open_hint read =
-    if same_bytes read (codes ",") then codes "Parentheses that are no call have one expression in them: a list is `x :: y :: []`.\n"
+    if same_bytes read (codes ",") then codes "Parentheses that are no call have one expression in them: a list is `x :: y :: []`. Reserved words, as `if` and `next`, are no functions.\n"
     else codes "A `(` stands open before this: its `)` is missing.\n"
 
 -- what ends nothing, where the program may end
-abbrev pub whole_hint : (read : List ℕ) → List ℕ
-whole_hint read =
-    if same_bytes read (codes ")") then codes "Before this no `(` is open: leave it out.\n"
-    else if same_bytes read (codes ",") then codes "A program has one subject. Names of its block are written side by side by `--columns x,y`.\n"
-    else codes "Before this the program is whole: leave out what stands behind.\n"
+abbrev pub whole_hint : PlainAround → List ℕ
+whole_hint a =
+    if same_bytes a.read (codes ")") then codes "Before this no `(` is open: leave it out.\n"
+    else if same_bytes a.read (codes ",") then codes "A program has one subject. Names of its block are written side by side by `--columns x,y`.\n"
+    else if same_bytes a.read (codes "fi") then codes "Before this no `if` is open: leave the `fi` out.\n"
+    else if same_bytes a.before (codes "end") then codes "Before this the program is whole: leave out what stands behind.\n"
+    else if same_bytes a.read (codes ";") then codes "Behind a definition alone stands `;`: leave it out.\n"
+    else codes "Before this no `where` is open: leave the `end` out.\n"
 
 -- of a `=` alone
 abbrev pub alone_hint : (read : List ℕ) → List Candidate → List ℕ
 alone_hint read those =
     if is_whole those then codes "A program begins with an expression, and its definitions stand behind `where`: `n where n = 1; end`. To compare, write `eq`.\n"
     else if is_behind_parameter those then open_hint read
+    else if has (codes ";") those then codes "A definition has one `=`: to compare, write `eq`.\n"
     else codes "`=` stands in definitions alone: to compare, write `eq`.\n"
 
 -- of a `=`
-abbrev pub equals_hint : PlainAround → List Candidate → List ℕ
+unfoldable pub equals_hint : PlainAround → List Candidate → List ℕ
 equals_hint a those =
     if same_bytes a.after (codes ">") then codes "To compare, write `>=`.\n"
     else if same_bytes a.after (codes "<") then codes "To compare, write `<=`.\n"
+    else if same_bytes a.after (codes "=") then codes "To compare, write `eq`.\n"
+    else if same_bytes a.before (codes "=") then codes "A definition has one `=`: to compare, write `eq`.\n"
     else alone_hint a.read those
 
 -- in a definition
@@ -109,17 +119,22 @@ definition_hint read those =
     if has (codes ";") those then codes "Each definition ends with `;`, the last one before `end` too.\n"
     else if is_closing read && has (codes "end") those then codes "Behind `where` come the definitions, and then `end`.\n"
     else if has (codes "end") those && is_reserved read then codes "This word is reserved: no name is spelled so.\n"
+    else if has (codes "1") those then codes "An expression is missing before this.\n"
     else []
 
 -- of a `;` that lacks at the end of a line
 abbrev pub line_hint : (gap : List ℕ) → List ℕ
 line_hint gap =
-    if has_comment gap then codes "Is the `;` missing at the end of the line before? A comment begins there with `//`: whole division is `div`.\n"
+    if has_comment gap then codes "Is the `;` missing before the `//`? What stands behind that is a comment: whole division is `div`.\n"
     else codes "Is the `;` missing at the end of the line before?\n"
 
 -- behind a name, and before no `=`: an argument was meant
 abbrev pub is_argument : PlainAround → List Candidate → Bool
 is_argument a those = has (codes "(") those && not (has (codes "1") those) && not (same_bytes a.after (codes "="))
+
+-- two numbers, where a program may end
+abbrev pub is_values : PlainAround → List Candidate → Bool
+is_values a those = is_whole those && (begins_with is_ascii_digit a.before && begins_with is_ascii_digit a.read)
 
 -- behind a block that may be the whole program
 abbrev pub is_ended : PlainAround → List Candidate → Bool
@@ -133,25 +148,38 @@ is_defining a those = is_whole those && (breaks_line a.gap || same_bytes a.after
 abbrev pub lacking_hint : PlainAround → List Candidate → List ℕ
 lacking_hint a those =
     if has (codes ";") those && breaks_line a.gap then line_hint a.gap
-    else if is_ended a those then whole_hint a.read
+    else if is_ended a those then whole_hint a
+    else if is_values a those then codes "Two numbers stand here, and no operator between them. Values of an input stand in a file of their own: `NAME=FILE` behind the program.\n"
     else if is_defining a those then codes "Is `where` missing before the definitions?\n"
     else if has (codes "then") those then codes "Behind the test of an `if` stands `then`.\n"
-    else if is_argument a those then codes "Is an operator or `where` missing before this? Arguments stand in parentheses: `f(x)`.\n"
+    else if has (codes ",") those then codes "Is a `,` or a `)` missing before this? A call is written `f(x, y)`.\n"
+    else if is_argument a those then codes "Is an operator or `where` missing before this? Arguments stand in parentheses, as in `f(x)`, and a string of words as `two words'.\n"
+    else definition_hint a.read those
+
+-- where the source ends behind a block in a definition
+abbrev pub is_inner : PlainAround → List Candidate → Bool
+is_inner a those = has (codes ";") those && (length a.read == 0 && same_bytes a.before (codes "end"))
+
+-- where a definition goes on, and what stands there doesn't
+abbrev pub inner_hint : PlainAround → List Candidate → List ℕ
+inner_hint a those =
+    if is_inner a those then codes "Each `where` has an `end` of its own: one is missing. Behind the `end` of an inner block stands the `;` of its definition.\n"
+    else if same_bytes a.read (codes "fi") && has (codes ";") those then codes "In this definition no `if` is open: leave the `fi` out, or end the definition with `;`.\n"
     else definition_hint a.read those
 
 -- where an expression ends that may not end there, or the program goes on that may end
-abbrev pub closing_hint : (read : List ℕ) → List Candidate → List ℕ
-closing_hint read those =
+abbrev pub closing_hint : PlainAround → List Candidate → List ℕ
+closing_hint a those =
     if has (codes "fi") those then codes "Each `if` ends with a `fi` of its own.\n"
     else if has (codes "else") those then codes "An `if` has an `else`, and ends with `fi`.\n"
-    else if has (codes ")") those then open_hint read
-    else if is_whole those then whole_hint read
-    else definition_hint read those
+    else if has (codes ")") those then open_hint a.read
+    else if is_whole those then whole_hint a
+    else inner_hint a those
 
 abbrev pub end_hint : PlainAround → List Candidate → List ℕ
 end_hint a those =
     if lacks_operand a.before those then codes "The word before this is an operator, behind which an expression stands. It is reserved: no name is spelled so.\n"
-    else if is_closing a.read then closing_hint a.read those
+    else if is_closing a.read then closing_hint a those
     else lacking_hint a those
 
 -- behind the name of a definition
@@ -159,13 +187,8 @@ abbrev pub head_hint : PlainAround → List ℕ
 head_hint a =
     if is_step a.read && same_bytes a.after (codes "=") then codes "A name is defined once, for all times: `n = 0 fby n + 1;`.\n"
     else if same_bytes a.read (codes "-") then codes "A name has letters, digits and `_` alone.\n"
-    else codes "A definition begins with the name that it defines, and then `=`: `n = 1;`.\n"
-
--- before the first token
-abbrev pub first_hint : PlainAround → List ℕ
-first_hint a =
-    if length a.read == 0 && is_swallowed a.gap then codes "A comment goes on to a byte 10: here a byte 13 alone ends the lines.\n"
-    else codes "A program begins with an expression, and its definitions stand behind `where`: `n where n = 1; end`.\n"
+    else if length a.read == 0 then codes "Behind `where` come the definitions, and then `end`.\n"
+    else codes "A definition begins with the name that it defines, and then `=`: `n = 1;`. Parameters stand in parentheses: `f(x) = x + 1;`.\n"
 
 -- the parameters of a function stand there
 abbrev pub is_parameter : List Candidate → Bool
@@ -174,40 +197,94 @@ is_parameter those = has (codes "x") those && not (has (codes "1") those || has 
 abbrev pub parameter_hint : (read : List ℕ) → List ℕ
 parameter_hint read =
     if is_reserved read then codes "This word is reserved: no name is spelled so.\n"
-    else codes "A parameter is a name. A value that depends on it is written with `if`.\n"
+    else codes "A parameter is a name. A value that depends on it is written with `if`, and one at time 0 with `fby`.\n"
+
+-- an operator that stands between two expressions, as `+` and `fby`
+abbrev pub is_between : Option Form → Bool
+is_between None = false
+is_between (Some Between) = true
+is_between (Some Before) = false
+is_between (Some Called) = false
+
+abbrev pub stands_between : Option Operator → Bool
+stands_between None = false
+stands_between (Some operator) = is_between (row_of operator).form
+
+abbrev pub is_infix : List ℕ → Bool
+is_infix read = stands_between (spelled read)
 
 -- by where the place stands
-abbrev pub place_hint : PlainAround → List Candidate → List ℕ
+unfoldable pub place_hint : PlainAround → List Candidate → List ℕ
 place_hint a those =
-    if length a.before == 0 then first_hint a
+    if has (codes "1") those && is_infix a.read then codes "This operator stands between two expressions, as `fby` in `0 fby n`.\n"
+    else if length a.before == 0 then codes "A program begins with an expression, and its definitions stand behind `where`: `n where n = 1; end`.\n"
     else if has (codes "is") those then head_hint a
     else if is_parameter those then parameter_hint a.read
     else end_hint a those
+
+-- how other languages write the value before
+abbrev pub is_previous : (before : List ℕ) → Bool
+is_previous before = same_bytes before (codes "prev") || same_bytes before (codes "pre")
+
+-- a definition that was to begin with the time of a value
+abbrev pub is_moment : PlainAround → List Candidate → Bool
+is_moment a those =
+    has (codes "end") those && not (same_bytes a.after (codes "=")) && (same_bytes a.read (codes "first") || same_bytes a.read (codes "next"))
+
+-- words of other languages, where a program goes on
+abbrev pub foreign_hint : PlainAround → List Candidate → List ℕ
+foreign_hint a those =
+    if has (codes "where") those && same_bytes a.before (codes "let") then codes "There is no `let`: definitions stand behind `where`, as in `n where n = 1; end`.\n"
+    else if has (codes "where") those && same_bytes a.before (codes "head") then codes "The first item of a list l is `hd l`, and the others are `tl l`.\n"
+    else if has (codes "where") those && is_previous a.before then codes "The value of n one time before is `0 fby n`, which is 0 at first.\n"
+    else if is_moment a those then codes "A name is defined once, for all times: `n = 0 fby n + 1;`.\n"
+    else place_hint a those
 
 -- by the token before
 abbrev pub behind_hint : PlainAround → List Candidate → List ℕ
 behind_hint a those =
     if same_bytes a.before (codes "is") then codes "Behind `is` stands `current`: a definition is written with `=`.\n"
     else if same_bytes a.before (codes "return") then codes "There is no `return`: the right side of `=` is the value.\n"
-    else if is_product a then codes "A product is written with `*`, as in `2 * n`.\n"
-    else place_hint a those
+    else if is_product a then codes "A product is written with `*`, as in `2 * n`. A number has digits alone.\n"
+    else foreign_hint a those
+
+-- the token is this one, and another one may stand there
+abbrev pub reads : (read word other : List ℕ) → List Candidate → Bool
+reads read word other those = same_bytes read word && has other those
+
+-- an operator behind a block
+abbrev pub is_behind_block : PlainAround → Bool
+is_behind_block a = same_bytes a.before (codes "end") && is_infix a.read
 
 -- by both
 abbrev pub are_both : PlainAround → (before read : List ℕ) → Bool
 are_both a before read = same_bytes a.before before && same_bytes a.read read
 
-abbrev pub pair_hint : PlainAround → List Candidate → List ℕ
-pair_hint a those =
-    if are_both a (codes "+") (codes "+") then codes "There is no `++`: write `n + 1`.\n"
-    else if are_both a (codes "(") (codes ")") then codes "A function has one argument at least: what has none is a plain name, without parentheses.\n"
+-- of an arrow
+abbrev pub arrow_hint : PlainAround → List Candidate → List ℕ
+arrow_hint a those =
+    if are_both a (codes "=") (codes ">") then codes "A definition is written with `=` alone, as in `f(x) = x + 1;`.\n"
+    else if are_both a (codes "-") (codes ">") then codes "There is no `->`: a function is written `f(x) = x + 1;`, and `0 fby n` is 0 and then n.\n"
     else behind_hint a those
 
--- by the token itself: it is the word, and another one may stand there
-abbrev pub reads : (read word other : List ℕ) → List Candidate → Bool
-reads read word other those = same_bytes read word && has other those
+unfoldable pub pair_hint : PlainAround → List Candidate → List ℕ
+pair_hint a those =
+    if are_both a (codes "+") (codes "+") then codes "There is no `++`: write `n + 1`. Lists are joined by `<>`, and strings by `^`.\n"
+    else if are_both a (codes "(") (codes ")") then codes "A function has one argument at least: what has none is a plain name, without parentheses.\n"
+    else if reads a.read (codes "+") (codes "1") those then codes "No `+` stands before a number: write `1`.\n"
+    else if is_behind_block a then codes "A block before an operator stands in parentheses: `(n where n = 1; end) + 1`.\n"
+    else arrow_hint a those
 
 abbrev pub continues : (read : List ℕ) → List Candidate → Bool
 continues read those = is_elif read && has (codes "else") those
+
+-- a comment that was to begin with two `-`
+abbrev pub is_dashed : PlainAround → List Candidate → Bool
+is_dashed a those = same_bytes a.read (codes "-") && (has (codes "end") those || same_bytes a.after (codes "-"))
+
+-- how other languages begin a comment
+abbrev pub is_remark : PlainAround → List Candidate → Bool
+is_remark a those = are_both a (codes "(") (codes "*") || is_dashed a those
 
 abbrev pub chains : (read : List ℕ) → List Candidate → Bool
 chains read those = is_comparison read && has (codes "+") those
@@ -216,20 +293,35 @@ abbrev pub word_hint : PlainAround → List Candidate → List ℕ
 word_hint a those =
     if reads a.read (codes "if") (codes "where") those then codes "A choice is written `if .. then .. else .. fi`.\n"
     else if continues a.read those then codes "Write `else if .. then .. else .. fi fi`: each `if` ends with a `fi` of its own.\n"
-    else if reads a.read (codes "-") (codes "end") those then codes "A comment begins with `//`.\n"
+    else if is_remark a those then codes "A comment begins with `//`.\n"
     else pair_hint a those
 
 -- of an operator
-abbrev pub operator_hint : PlainAround → List Candidate → List ℕ
+unfoldable pub operator_hint : PlainAround → List Candidate → List ℕ
 operator_hint a those =
     if chains a.read those then codes "Comparisons don't chain: write `1 < n and n < 5`.\n"
     else if reads a.read (codes "not") (codes "1") those then codes "Here `not` stands in parentheses, as in `a eq (not b)`.\n"
+    else if reads a.read (codes "not") (codes "+") those then codes "What differs is written with `ne`, as in `n ne 3`.\n"
     else word_hint a those
+
+-- the words of a definition that freezes a value
+abbrev pub is_frozen : (read : List ℕ) → Bool
+is_frozen read = same_bytes read (codes "current") || same_bytes read (codes "is")
+
+abbrev pub frozen_hint : (read : List ℕ) → List ℕ
+frozen_hint read =
+    if same_bytes read (codes "current") then codes "Write `k is current n;`, without `=`.\n"
+    else codes "`k is current n;` defines a plain name, behind `where`.\n"
+
+-- where the source ends with a comment that was to end before
+abbrev pub is_cut_off : PlainAround → Bool
+is_cut_off a = length a.read == 0 && is_swallowed a.gap
 
 abbrev pub token_hint : PlainAround → List Candidate → List ℕ
 token_hint a those =
-    if same_bytes a.read (codes "=") then equals_hint a those
-    else if same_bytes a.read (codes "current") then codes "Write `k is current n;`, without `=`.\n"
+    if is_cut_off a then codes "A comment goes on to a byte 10: here a byte 13 alone ends the lines.\n"
+    else if same_bytes a.read (codes "=") then equals_hint a those
+    else if is_frozen a.read then frozen_hint a.read
     else operator_hint a those
 
 abbrev pub hint : PlainAround → List Candidate → List ℕ

@@ -2,11 +2,13 @@
 ghost use Rattle.std.specs.Prelude.{◌≡◌, ◌==◌, ℕ, ◌||◌, IfOk};
 ghost use Rattle.std.specs.Char.{is_ascii_alphabetic, is_ascii_digit};
 ghost use Rattle.lucid_explain_places.specs.Around.{plain_around};
-ghost use Rattle.lucid_explain_places.specs.Hints.{has, is_open, is_whole, is_closing, is_comparison, is_elif, is_step, is_part_word, lacks_operand, is_capital, begins_with, is_product, breaks_line, has_return, has_comment, is_swallowed, is_behind_parameter, open_hint, whole_hint, alone_hint, equals_hint, line_hint, is_argument, definition_hint, is_ended, is_defining, lacking_hint, closing_hint, end_hint, head_hint, first_hint, is_parameter, parameter_hint, place_hint, behind_hint, are_both, pair_hint, reads, continues, chains, word_hint, operator_hint, token_hint, hint};
+ghost use Rattle.lucid_explain_places.specs.Hints.{has, is_open, is_whole, is_closing, is_comparison, is_elif, is_step, is_part_word, lacks_operand, is_capital, begins_with, is_product, breaks_line, has_return, has_comment, is_swallowed, is_behind_parameter, open_hint, whole_hint, alone_hint, equals_hint, line_hint, is_argument, definition_hint, is_values, is_ended, is_defining, lacking_hint, is_inner, inner_hint, closing_hint, end_hint, head_hint, is_parameter, parameter_hint, is_between, is_infix, place_hint, is_previous, is_moment, foreign_hint, behind_hint, reads, is_behind_block, are_both, arrow_hint, pair_hint, continues, is_dashed, is_remark, chains, word_hint, operator_hint, is_frozen, frozen_hint, is_cut_off, token_hint, hint};
 
 use crate::around::Around;
 use crate::candidates::Candidate;
 use crate::shown::len_in_line;
+use lucid_ops::Form as Fixity;
+use lucid_parse::Operator;
 use lucid_value::is_reserved;
 use std::alloc::{AllocError, Global};
 
@@ -80,8 +82,8 @@ fn lacks_operand(before: &[u8], those: &[Candidate]) -> bool
     has(b"1", those) && is_reserved(before) && !is_part_word(before)
 }
 
-// Whether this is a reserved word but for capital letters.
-fn is_capital(alloc: Global, text: &[u8]) -> Result<bool, AllocError>
+/// Whether this is a reserved word but for capital letters.
+pub fn is_capital(alloc: Global, text: &[u8]) -> Result<bool, AllocError>
     ensures { IfOk result (λ b. b ≡ is_capital text.now) }
 {
     let small = text.to_ascii_lowercase(alloc)?;
@@ -158,22 +160,28 @@ fn open_hint(read: &[u8]) -> &'static [u8]
     ensures { result.now ≡ open_hint read.now }
 {
     if read == b",".as_slice() {
-        b"Parentheses that are no call have one expression in them: a list is `x :: y :: []`.\n"
+        b"Parentheses that are no call have one expression in them: a list is `x :: y :: []`. Reserved words, as `if` and `next`, are no functions.\n"
     } else {
         b"A `(` stands open before this: its `)` is missing.\n"
     }
 }
 
 // A hint at what ends nothing, where the program may end.
-fn whole_hint(read: &[u8]) -> &'static [u8]
-    ensures { result.now ≡ whole_hint read.now }
+fn whole_hint(around: &Around<'_>) -> &'static [u8]
+    ensures { result.now ≡ whole_hint (plain_around around.now) }
 {
-    if read == b")".as_slice() {
+    if around.read == b")".as_slice() {
         b"Before this no `(` is open: leave it out.\n"
-    } else if read == b",".as_slice() {
+    } else if around.read == b",".as_slice() {
         b"A program has one subject. Names of its block are written side by side by `--columns x,y`.\n"
-    } else {
+    } else if around.read == b"fi".as_slice() {
+        b"Before this no `if` is open: leave the `fi` out.\n"
+    } else if around.before == b"end".as_slice() {
         b"Before this the program is whole: leave out what stands behind.\n"
+    } else if around.read == b";".as_slice() {
+        b"Behind a definition alone stands `;`: leave it out.\n"
+    } else {
+        b"Before this no `where` is open: leave the `end` out.\n"
     }
 }
 
@@ -185,12 +193,15 @@ fn alone_hint(read: &[u8], those: &[Candidate]) -> &'static [u8]
         b"A program begins with an expression, and its definitions stand behind `where`: `n where n = 1; end`. To compare, write `eq`.\n"
     } else if is_behind_parameter(those) {
         open_hint(read)
+    } else if has(b";", those) {
+        b"A definition has one `=`: to compare, write `eq`.\n"
     } else {
         b"`=` stands in definitions alone: to compare, write `eq`.\n"
     }
 }
 
 // A hint at a `=`.
+#[tactic(auto, unfolding(crate::specs::Hints::equals_hint))]
 fn equals_hint(around: &Around<'_>, those: &[Candidate]) -> &'static [u8]
     ensures { result.now ≡ equals_hint (plain_around around.now) those.now }
 {
@@ -198,6 +209,10 @@ fn equals_hint(around: &Around<'_>, those: &[Candidate]) -> &'static [u8]
         b"To compare, write `>=`.\n"
     } else if around.after == b"<".as_slice() {
         b"To compare, write `<=`.\n"
+    } else if around.after == b"=".as_slice() {
+        b"To compare, write `eq`.\n"
+    } else if around.before == b"=".as_slice() {
+        b"A definition has one `=`: to compare, write `eq`.\n"
     } else {
         alone_hint(around.read, those)
     }
@@ -213,6 +228,8 @@ fn definition_hint(read: &[u8], those: &[Candidate]) -> &'static [u8]
         b"Behind `where` come the definitions, and then `end`.\n"
     } else if has(b"end", those) && is_reserved(read) {
         b"This word is reserved: no name is spelled so.\n"
+    } else if has(b"1", those) {
+        b"An expression is missing before this.\n"
     } else {
         b""
     }
@@ -223,7 +240,7 @@ fn line_hint(gap: &[u8]) -> &'static [u8]
     ensures { result.now ≡ line_hint gap.now }
 {
     if has_comment(gap) {
-        b"Is the `;` missing at the end of the line before? A comment begins there with `//`: whole division is `div`.\n"
+        b"Is the `;` missing before the `//`? What stands behind that is a comment: whole division is `div`.\n"
     } else {
         b"Is the `;` missing at the end of the line before?\n"
     }
@@ -234,6 +251,13 @@ fn is_argument(around: &Around<'_>, those: &[Candidate]) -> bool
     ensures { result ≡ is_argument (plain_around around.now) those.now }
 {
     has(b"(", those) && !has(b"1", those) && around.after != b"=".as_slice()
+}
+
+// Whether two numbers stand there, where a program may end.
+fn is_values(around: &Around<'_>, those: &[Candidate]) -> bool
+    ensures { result ≡ is_values (plain_around around.now) those.now }
+{
+    is_whole(those) && begins_number(around.before) && begins_number(around.read)
 }
 
 // Whether this stands behind a block that may be the whole program.
@@ -257,32 +281,56 @@ fn lacking_hint(around: &Around<'_>, those: &[Candidate]) -> &'static [u8]
     if has(b";", those) && breaks_line(around.gap) {
         line_hint(around.gap)
     } else if is_ended(around, those) {
-        whole_hint(around.read)
+        whole_hint(around)
+    } else if is_values(around, those) {
+        b"Two numbers stand here, and no operator between them. Values of an input stand in a file of their own: `NAME=FILE` behind the program.\n"
     } else if is_defining(around, those) {
         b"Is `where` missing before the definitions?\n"
     } else if has(b"then", those) {
         b"Behind the test of an `if` stands `then`.\n"
+    } else if has(b",", those) {
+        b"Is a `,` or a `)` missing before this? A call is written `f(x, y)`.\n"
     } else if is_argument(around, those) {
-        b"Is an operator or `where` missing before this? Arguments stand in parentheses: `f(x)`.\n"
+        b"Is an operator or `where` missing before this? Arguments stand in parentheses, as in `f(x)`, and a string of words as `two words'.\n"
+    } else {
+        definition_hint(around.read, those)
+    }
+}
+
+// Whether the source ends behind a block in a definition.
+fn is_inner(around: &Around<'_>, those: &[Candidate]) -> bool
+    ensures { result ≡ is_inner (plain_around around.now) those.now }
+{
+    has(b";", those) && around.read.is_empty() && around.before == b"end".as_slice()
+}
+
+// A hint where a definition goes on, and what stands there doesn't.
+fn inner_hint(around: &Around<'_>, those: &[Candidate]) -> &'static [u8]
+    ensures { result.now ≡ inner_hint (plain_around around.now) those.now }
+{
+    if is_inner(around, those) {
+        b"Each `where` has an `end` of its own: one is missing. Behind the `end` of an inner block stands the `;` of its definition.\n"
+    } else if around.read == b"fi".as_slice() && has(b";", those) {
+        b"In this definition no `if` is open: leave the `fi` out, or end the definition with `;`.\n"
     } else {
         definition_hint(around.read, those)
     }
 }
 
 // A hint where an expression ends that may not end there, or the program goes on that may end.
-fn closing_hint(read: &[u8], those: &[Candidate]) -> &'static [u8]
-    ensures { result.now ≡ closing_hint read.now those.now }
+fn closing_hint(around: &Around<'_>, those: &[Candidate]) -> &'static [u8]
+    ensures { result.now ≡ closing_hint (plain_around around.now) those.now }
 {
     if has(b"fi", those) {
         b"Each `if` ends with a `fi` of its own.\n"
     } else if has(b"else", those) {
         b"An `if` has an `else`, and ends with `fi`.\n"
     } else if has(b")", those) {
-        open_hint(read)
+        open_hint(around.read)
     } else if is_whole(those) {
-        whole_hint(read)
+        whole_hint(around)
     } else {
-        definition_hint(read, those)
+        inner_hint(around, those)
     }
 }
 
@@ -293,7 +341,7 @@ fn end_hint(around: &Around<'_>, those: &[Candidate]) -> &'static [u8]
     if lacks_operand(around.before, those) {
         b"The word before this is an operator, behind which an expression stands. It is reserved: no name is spelled so.\n"
     } else if is_closing(around.read) {
-        closing_hint(around.read, those)
+        closing_hint(around, those)
     } else {
         lacking_hint(around, those)
     }
@@ -307,19 +355,10 @@ fn head_hint(around: &Around<'_>) -> &'static [u8]
         b"A name is defined once, for all times: `n = 0 fby n + 1;`.\n"
     } else if around.read == b"-".as_slice() {
         b"A name has letters, digits and `_` alone.\n"
+    } else if around.read.is_empty() {
+        b"Behind `where` come the definitions, and then `end`.\n"
     } else {
-        b"A definition begins with the name that it defines, and then `=`: `n = 1;`.\n"
-    }
-}
-
-// A hint before the first token.
-fn first_hint(around: &Around<'_>) -> &'static [u8]
-    ensures { result.now ≡ first_hint (plain_around around.now) }
-{
-    if around.read.is_empty() && is_swallowed(around.gap) {
-        b"A comment goes on to a byte 10: here a byte 13 alone ends the lines.\n"
-    } else {
-        b"A program begins with an expression, and its definitions stand behind `where`: `n where n = 1; end`.\n"
+        b"A definition begins with the name that it defines, and then `=`: `n = 1;`. Parameters stand in parentheses: `f(x) = x + 1;`.\n"
     }
 }
 
@@ -337,22 +376,78 @@ fn parameter_hint(read: &[u8]) -> &'static [u8]
     if is_reserved(read) {
         b"This word is reserved: no name is spelled so.\n"
     } else {
-        b"A parameter is a name. A value that depends on it is written with `if`.\n"
+        b"A parameter is a name. A value that depends on it is written with `if`, and one at time 0 with `fby`.\n"
+    }
+}
+
+// Whether an operator that is written so stands between two expressions.
+fn is_between(form: Option<Fixity>) -> bool
+    ensures { result ≡ is_between form }
+{
+    match form {
+        Some(Fixity::Between) => true,
+        Some(Fixity::Before) | Some(Fixity::Called) | None => false,
+    }
+}
+
+// Whether this is an operator that stands between two expressions.
+fn is_infix(read: &[u8]) -> bool
+    ensures { result ≡ is_infix read.now }
+{
+    match Operator::find(read) {
+        Some(operator) => is_between(operator.row().form),
+        None => false,
     }
 }
 
 // A hint by where the place stands.
+#[tactic(auto, unfolding(crate::specs::Hints::place_hint))]
 fn place_hint(around: &Around<'_>, those: &[Candidate]) -> &'static [u8]
     ensures { result.now ≡ place_hint (plain_around around.now) those.now }
 {
-    if around.before.is_empty() {
-        first_hint(around)
+    if has(b"1", those) && is_infix(around.read) {
+        b"This operator stands between two expressions, as `fby` in `0 fby n`.\n"
+    } else if around.before.is_empty() {
+        b"A program begins with an expression, and its definitions stand behind `where`: `n where n = 1; end`.\n"
     } else if has(b"is", those) {
         head_hint(around)
     } else if is_parameter(those) {
         parameter_hint(around.read)
     } else {
         end_hint(around, those)
+    }
+}
+
+// Whether this is how other languages write the value before.
+fn is_previous(before: &[u8]) -> bool
+    ensures { result ≡ is_previous before.now }
+{
+    before == b"prev".as_slice() || before == b"pre".as_slice()
+}
+
+// Whether a definition was to begin with the time of a value.
+fn is_moment(around: &Around<'_>, those: &[Candidate]) -> bool
+    ensures { result ≡ is_moment (plain_around around.now) those.now }
+{
+    has(b"end", those)
+        && around.after != b"=".as_slice()
+        && (around.read == b"first".as_slice() || around.read == b"next".as_slice())
+}
+
+// A hint at words of other languages, where a program goes on.
+fn foreign_hint(around: &Around<'_>, those: &[Candidate]) -> &'static [u8]
+    ensures { result.now ≡ foreign_hint (plain_around around.now) those.now }
+{
+    if has(b"where", those) && around.before == b"let".as_slice() {
+        b"There is no `let`: definitions stand behind `where`, as in `n where n = 1; end`.\n"
+    } else if has(b"where", those) && around.before == b"head".as_slice() {
+        b"The first item of a list l is `hd l`, and the others are `tl l`.\n"
+    } else if has(b"where", those) && is_previous(around.before) {
+        b"The value of n one time before is `0 fby n`, which is 0 at first.\n"
+    } else if is_moment(around, those) {
+        b"A name is defined once, for all times: `n = 0 fby n + 1;`.\n"
+    } else {
+        place_hint(around, those)
     }
 }
 
@@ -365,29 +460,9 @@ fn behind_hint(around: &Around<'_>, those: &[Candidate]) -> &'static [u8]
     } else if around.before == b"return".as_slice() {
         b"There is no `return`: the right side of `=` is the value.\n"
     } else if is_product(around) {
-        b"A product is written with `*`, as in `2 * n`.\n"
+        b"A product is written with `*`, as in `2 * n`. A number has digits alone.\n"
     } else {
-        place_hint(around, those)
-    }
-}
-
-// Whether these are the token before the place and the one at it.
-fn are_both(around: &Around<'_>, before: &[u8], read: &[u8]) -> bool
-    ensures { result ≡ are_both (plain_around around.now) before.now read.now }
-{
-    around.before == before && around.read == read
-}
-
-// A hint by both.
-fn pair_hint(around: &Around<'_>, those: &[Candidate]) -> &'static [u8]
-    ensures { result.now ≡ pair_hint (plain_around around.now) those.now }
-{
-    if are_both(around, b"+", b"+") {
-        b"There is no `++`: write `n + 1`.\n"
-    } else if are_both(around, b"(", b")") {
-        b"A function has one argument at least: what has none is a plain name, without parentheses.\n"
-    } else {
-        behind_hint(around, those)
+        foreign_hint(around, those)
     }
 }
 
@@ -398,11 +473,70 @@ fn reads(read: &[u8], word: &[u8], other: &[u8], those: &[Candidate]) -> bool
     read == word && has(other, those)
 }
 
+// Whether this is an operator behind a block.
+fn is_behind_block(around: &Around<'_>) -> bool
+    ensures { result ≡ is_behind_block (plain_around around.now) }
+{
+    around.before == b"end".as_slice() && is_infix(around.read)
+}
+
+// Whether these are the token before the place and the one at it.
+fn are_both(around: &Around<'_>, before: &[u8], read: &[u8]) -> bool
+    ensures { result ≡ are_both (plain_around around.now) before.now read.now }
+{
+    around.before == before && around.read == read
+}
+
+// A hint at an arrow.
+fn arrow_hint(around: &Around<'_>, those: &[Candidate]) -> &'static [u8]
+    ensures { result.now ≡ arrow_hint (plain_around around.now) those.now }
+{
+    if are_both(around, b"=", b">") {
+        b"A definition is written with `=` alone, as in `f(x) = x + 1;`.\n"
+    } else if are_both(around, b"-", b">") {
+        b"There is no `->`: a function is written `f(x) = x + 1;`, and `0 fby n` is 0 and then n.\n"
+    } else {
+        behind_hint(around, those)
+    }
+}
+
+// A hint by both.
+#[tactic(auto, unfolding(crate::specs::Hints::pair_hint))]
+fn pair_hint(around: &Around<'_>, those: &[Candidate]) -> &'static [u8]
+    ensures { result.now ≡ pair_hint (plain_around around.now) those.now }
+{
+    if are_both(around, b"+", b"+") {
+        b"There is no `++`: write `n + 1`. Lists are joined by `<>`, and strings by `^`.\n"
+    } else if are_both(around, b"(", b")") {
+        b"A function has one argument at least: what has none is a plain name, without parentheses.\n"
+    } else if reads(around.read, b"+", b"1", those) {
+        b"No `+` stands before a number: write `1`.\n"
+    } else if is_behind_block(around) {
+        b"A block before an operator stands in parentheses: `(n where n = 1; end) + 1`.\n"
+    } else {
+        arrow_hint(around, those)
+    }
+}
+
 // Whether an `else` may stand where this stands for `else if`.
 fn continues(read: &[u8], those: &[Candidate]) -> bool
     ensures { result ≡ continues read.now those.now }
 {
     is_elif(read) && has(b"else", those)
+}
+
+// Whether a comment was to begin with two `-`.
+fn is_dashed(around: &Around<'_>, those: &[Candidate]) -> bool
+    ensures { result ≡ is_dashed (plain_around around.now) those.now }
+{
+    around.read == b"-".as_slice() && (has(b"end", those) || around.after == b"-".as_slice())
+}
+
+// Whether other languages begin a comment so.
+fn is_remark(around: &Around<'_>, those: &[Candidate]) -> bool
+    ensures { result ≡ is_remark (plain_around around.now) those.now }
+{
+    are_both(around, b"(", b"*") || is_dashed(around, those)
 }
 
 // Whether this compares what is compared already.
@@ -420,7 +554,7 @@ fn word_hint(around: &Around<'_>, those: &[Candidate]) -> &'static [u8]
         b"A choice is written `if .. then .. else .. fi`.\n"
     } else if continues(around.read, those) {
         b"Write `else if .. then .. else .. fi fi`: each `if` ends with a `fi` of its own.\n"
-    } else if reads(around.read, b"-", b"end", those) {
+    } else if is_remark(around, those) {
         b"A comment begins with `//`.\n"
     } else {
         pair_hint(around, those)
@@ -428,6 +562,7 @@ fn word_hint(around: &Around<'_>, those: &[Candidate]) -> &'static [u8]
 }
 
 // A hint by the token, where it is an operator.
+#[tactic(auto, unfolding(crate::specs::Hints::operator_hint))]
 fn operator_hint(around: &Around<'_>, those: &[Candidate]) -> &'static [u8]
     ensures { result.now ≡ operator_hint (plain_around around.now) those.now }
 {
@@ -435,19 +570,48 @@ fn operator_hint(around: &Around<'_>, those: &[Candidate]) -> &'static [u8]
         b"Comparisons don't chain: write `1 < n and n < 5`.\n"
     } else if reads(around.read, b"not", b"1", those) {
         b"Here `not` stands in parentheses, as in `a eq (not b)`.\n"
+    } else if reads(around.read, b"not", b"+", those) {
+        b"What differs is written with `ne`, as in `n ne 3`.\n"
     } else {
         word_hint(around, those)
     }
+}
+
+// Whether this is a word of a definition that freezes a value.
+fn is_frozen(read: &[u8]) -> bool
+    ensures { result ≡ is_frozen read.now }
+{
+    read == b"current".as_slice() || read == b"is".as_slice()
+}
+
+// A hint at such a word.
+fn frozen_hint(read: &[u8]) -> &'static [u8]
+    ensures { result.now ≡ frozen_hint read.now }
+{
+    if read == b"current".as_slice() {
+        b"Write `k is current n;`, without `=`.\n"
+    } else {
+        b"`k is current n;` defines a plain name, behind `where`.\n"
+    }
+}
+
+// Whether the source ends there with a comment that was to end before.
+fn is_cut_off(around: &Around<'_>) -> bool
+    ensures { result ≡ is_cut_off (plain_around around.now) }
+{
+    around.read.is_empty() && is_swallowed(around.gap)
 }
 
 // A hint by the token.
 fn token_hint(around: &Around<'_>, those: &[Candidate]) -> &'static [u8]
     ensures { result.now ≡ token_hint (plain_around around.now) those.now }
 {
-    if around.read == b"=".as_slice() {
+    if is_cut_off(around) {
+        b"A comment goes on to a byte 10: here a byte 13 alone ends the lines.\n"
+    } else if around.read == b"=".as_slice() {
         equals_hint(around, those)
-    } else if around.read == b"current".as_slice() {
-        b"Write `k is current n;`, without `=`.\n"
+    } else if is_frozen(around.read) {
+        frozen_hint(around.read)
     } else {
         operator_hint(around, those)
     }

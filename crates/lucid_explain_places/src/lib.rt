@@ -3,6 +3,7 @@
 
 pub use crate::around::Around;
 pub use crate::candidates::{Candidate, standing};
+pub use crate::hints::is_capital;
 pub use crate::position::{Position, position_of};
 pub use crate::shown::{put_place, put_shown};
 pub use crate::syntax::put_syntax;

@@ -132,7 +132,7 @@ struct Ends {
 }
 
 // Tokens that go wrong, with the hint that ends the report.
-static HINTS: [Ends; 42] = [
+static HINTS: [Ends; 70] = [
     Ends {
         source: b"n = 0 fby n + 1;",
         begin: "syntax at 2\n",
@@ -141,7 +141,7 @@ static HINTS: [Ends; 42] = [
     Ends {
         source: b"if x == 1 then 2 else 3 fi",
         begin: "syntax at 5\n",
-        end: ".\n`=` stands in definitions alone: to compare, write `eq`.\n",
+        end: ".\nTo compare, write `eq`.\n",
     },
     Ends {
         source: b"n => 3",
@@ -186,7 +186,7 @@ static HINTS: [Ends; 42] = [
     Ends {
         source: b"n where n = 0 fby n++; end",
         begin: "syntax at 20\n",
-        end: ".\nThere is no `++`: write `n + 1`.\n",
+        end: ".\nThere is no `++`: write `n + 1`. Lists are joined by `<>`, and strings by `^`.\n",
     },
     Ends {
         source: b"f() where f() = 3; end",
@@ -206,7 +206,7 @@ static HINTS: [Ends; 42] = [
     Ends {
         source: b"2n",
         begin: "syntax at 1\n",
-        end: ".\nA product is written with `*`, as in `2 * n`.\n",
+        end: ".\nA product is written with `*`, as in `2 * n`. A number has digits alone.\n",
     },
     Ends {
         source: b"where n = 1; end",
@@ -231,12 +231,12 @@ static HINTS: [Ends; 42] = [
     Ends {
         source: b"n where let n = 1; end",
         begin: "syntax at 12\n",
-        end: ".\nA definition begins with the name that it defines, and then `=`: `n = 1;`.\n",
+        end: ".\nA definition begins with the name that it defines, and then `=`: `n = 1;`. Parameters stand in parentheses: `f(x) = x + 1;`.\n",
     },
     Ends {
         source: b"f(1) where f(0) = 1; end",
         begin: "syntax at 13\n",
-        end: ".\nA parameter is a name. A value that depends on it is written with `if`.\n",
+        end: ".\nA parameter is a name. A value that depends on it is written with `if`, and one at time 0 with `fby`.\n",
     },
     Ends {
         source: b"length where length = 3; end",
@@ -266,7 +266,7 @@ static HINTS: [Ends; 42] = [
     Ends {
         source: b"(1, 2)",
         begin: "syntax at 2\n",
-        end: ".\nParentheses that are no call have one expression in them: a list is `x :: y :: []`.\n",
+        end: ".\nParentheses that are no call have one expression in them: a list is `x :: y :: []`. Reserved words, as `if` and `next`, are no functions.\n",
     },
     Ends {
         source: b"f(1) where f(x = x; end",
@@ -311,7 +311,7 @@ static HINTS: [Ends; 42] = [
     Ends {
         source: b"h where\n  h = n // 2;\n  n = 1;\nend",
         begin: "syntax at 24\n",
-        end: ".\nIs the `;` missing at the end of the line before? A comment begins there with `//`: whole division is `div`.\n",
+        end: ".\nIs the `;` missing before the `//`? What stands behind that is a comment: whole division is `div`.\n",
     },
     Ends {
         source: b"n\n  n = 1;\nend",
@@ -326,7 +326,7 @@ static HINTS: [Ends; 42] = [
     Ends {
         source: b"square n where square(x) = x * x; end",
         begin: "syntax at 7\n",
-        end: ".\nIs an operator or `where` missing before this? Arguments stand in parentheses: `f(x)`.\n",
+        end: ".\nIs an operator or `where` missing before this? Arguments stand in parentheses, as in `f(x)`, and a string of words as `two words'.\n",
     },
     Ends {
         source: b"x + y where x = y y = 2; end",
@@ -342,6 +342,146 @@ static HINTS: [Ends; 42] = [
         source: b"If n > 3 Then 1 Else 0 Fi",
         begin: "syntax at 3\n",
         end: ".\nReserved words are spelled in small letters, as `where` and `if`.\n",
+    },
+    Ends {
+        source: b"n; where n = 1; end",
+        begin: "syntax at 1\n",
+        end: ".\nBehind a definition alone stands `;`: leave it out.\n",
+    },
+    Ends {
+        source: b"n fi where n = 1; end",
+        begin: "syntax at 2\n",
+        end: ".\nBefore this no `if` is open: leave the `fi` out.\n",
+    },
+    Ends {
+        source: b"n end where n = 1; end",
+        begin: "syntax at 2\n",
+        end: ".\nBefore this no `where` is open: leave the `end` out.\n",
+    },
+    Ends {
+        source: b"n where n = 1; end + 1",
+        begin: "syntax at 19\n",
+        end: ".\nA block before an operator stands in parentheses: `(n where n = 1; end) + 1`.\n",
+    },
+    Ends {
+        source: b"x where x = y where y = 1; end fby 2; end",
+        begin: "syntax at 31\n",
+        end: ".\nA block before an operator stands in parentheses: `(n where n = 1; end) + 1`.\n",
+    },
+    Ends {
+        source: b"n where n = 1; end -- one",
+        begin: "syntax at 19\n",
+        end: ".\nA comment begins with `//`.\n",
+    },
+    Ends {
+        source: b"x + y where\n  x = 1 // one\n  y = 2;\nend",
+        begin: "syntax at 29\n",
+        end: ".\nIs the `;` missing before the `//`? What stands behind that is a comment: whole division is `div`.\n",
+    },
+    Ends {
+        source: b"y where y = x * x where x = 3; end",
+        begin: "syntax at 34\n",
+        end: ".\nEach `where` has an `end` of its own: one is missing. Behind the `end` of an inner block stands the `;` of its definition.\n",
+    },
+    Ends {
+        source: b"x where x = if true then 1 else 0 fi fi; end",
+        begin: "syntax at 37\n",
+        end: ".\nIn this definition no `if` is open: leave the `fi` out, or end the definition with `;`.\n",
+    },
+    Ends {
+        source: b"x where x = y = 0; end",
+        begin: "syntax at 14\n",
+        end: ".\nA definition has one `=`: to compare, write `eq`.\n",
+    },
+    Ends {
+        source: b"n where // one\r n = 1;\r end\r",
+        begin: "syntax at 28\n",
+        end: ".\nA comment goes on to a byte 10: here a byte 13 alone ends the lines.\n",
+    },
+    Ends {
+        source: b"n where n = 1; edn",
+        begin: "syntax at 18\n",
+        end: ".\nBehind `where` come the definitions, and then `end`.\n",
+    },
+    Ends {
+        source: b"n where n = 0 fby +1; end",
+        begin: "syntax at 18\n",
+        end: ".\nNo `+` stands before a number: write `1`.\n",
+    },
+    Ends {
+        source: b"fby(0, n)",
+        begin: "syntax at 0\n",
+        end: ".\nThis operator stands between two expressions, as `fby` in `0 fby n`.\n",
+    },
+    Ends {
+        source: b"let n = 1 in n",
+        begin: "syntax at 4\n",
+        end: ".\nThere is no `let`: definitions stand behind `where`, as in `n where n = 1; end`.\n",
+    },
+    Ends {
+        source: b"head [% 1 2 %]",
+        begin: "syntax at 5\n",
+        end: ".\nThe first item of a list l is `hd l`, and the others are `tl l`.\n",
+    },
+    Ends {
+        source: b"x is current n",
+        begin: "syntax at 2\n",
+        end: ".\n`k is current n;` defines a plain name, behind `where`.\n",
+    },
+    Ends {
+        source: b"f(2) where f(x) => x + 1; end",
+        begin: "syntax at 17\n",
+        end: ".\nA definition is written with `=` alone, as in `f(x) = x + 1;`.\n",
+    },
+    Ends {
+        source: b"n where n = 0 -> pre n + 1; end",
+        begin: "syntax at 15\n",
+        end: ".\nThere is no `->`: a function is written `f(x) = x + 1;`, and `0 fby n` is 0 and then n.\n",
+    },
+    Ends {
+        source: b"prev n where n = 1; end",
+        begin: "syntax at 5\n",
+        end: ".\nThe value of n one time before is `0 fby n`, which is 0 at first.\n",
+    },
+    Ends {
+        source: b"n not eq 3 where n = 1; end",
+        begin: "syntax at 2\n",
+        end: ".\nWhat differs is written with `ne`, as in `n ne 3`.\n",
+    },
+    Ends {
+        source: b"(* a clock *) n where n = 1; end",
+        begin: "syntax at 1\n",
+        end: ".\nA comment begins with `//`.\n",
+    },
+    Ends {
+        source: b"n where n == 1; end",
+        begin: "syntax at 11\n",
+        end: ".\nA definition has one `=`: to compare, write `eq`.\n",
+    },
+    Ends {
+        source: b"n where first n = 0; next n = n + 1; end",
+        begin: "syntax at 8\n",
+        end: ".\nA name is defined once, for all times: `n = 0 fby n + 1;`.\n",
+    },
+    Ends {
+        source: b"f(1 2) where f(x, y) = x + y; end",
+        begin: "syntax at 4\n",
+        end: ".\nIs a `,` or a `)` missing before this? A call is written `f(x, y)`.\n",
+    },
+    Ends {
+        source: b"n + where n = 1; end",
+        begin: "syntax at 4\n",
+        end: ".\nAn expression is missing before this.\n",
+    },
+    Ends {
+        source: b"1 +\n",
+        begin: "syntax at 4\n",
+        end: ".\nAn expression is missing before this.\n",
+    },
+    Ends {
+        source: b"80\n90\n",
+        begin: "syntax at 3\n",
+        end: ".\nTwo numbers stand here, and no operator between them. Values of an input stand in a file of their own: `NAME=FILE` behind the program.\n",
     },
 ];
 
