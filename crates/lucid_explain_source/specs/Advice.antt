@@ -5,7 +5,7 @@ use Rattle.lucid_value.specs.Names.{is_name_byte}
 use Rattle.lucid_scan.specs.declared.refusal.ScanRefusal.{ScanRefusal}
 use Rattle.lucid_scan.specs.declared.refusal.ScanRefusal.TheVariants as refusal
 use Rattle.lucid_explain_places.specs.Shown.{place_text}
-use Rattle.lucid_explain_source.specs.Characters.{begins, character_advice}
+use Rattle.lucid_explain_source.specs.Characters.{begins, differs_advice, character_advice}
 
 abbrev pub list_advice : List ℕ
 list_advice = codes "A list of constants is written `[% 1 2 3 %]`, with blanks between its items and no commas. Of computed items it is `a :: b :: []`.\n"
@@ -21,16 +21,19 @@ byte_advice b =
     else if b == 34 then codes "Between two \" stands one word: a letter, then letters and digits. The truths `true` and `false` stand without \", and other texts between a backquote and '.\n"
     else if b == 39 then string_advice
     else if b == 33 then codes "Write `ne` for what differs, and `not` before a truth.\n"
-    else if b == 38 then codes "Write `and`.\n"
-    else if b == 124 then codes "Write `or`.\n"
+    else if b == 38 then codes "Write `and`, and to join strings `^`.\n"
+    else if b == 124 then codes "Write `or`. Cases are told apart by `if .. then .. else .. fi`.\n"
     else if b == 37 then codes "What a division leaves over is `mod`.\n"
     else if b == 91 || b == 93 then list_advice
     else if b == 123 || b == 125 then codes "Parentheses group, and definitions stand between `where` and `end`.\n"
-    else if b == 95 then codes "A name begins with a letter.\n"
-    else if b == 58 then codes "A definition is written with `=`, and `::` puts a value in front of a list.\n"
+    else if b == 95 then codes "A name begins with a letter, and a number has digits alone.\n"
+    else if b == 58 then codes "A definition is written with `=`, as `n = 0 fby n + 1;` or `f(x) = x + 1;`, and `::` puts a value in front of a list. Behind a test stands `then`.\n"
     else if b == 63 then codes "A choice is written `if .. then .. else .. fi`.\n"
     else if b == 35 then codes "A comment begins with `//`.\n"
     else if b == 64 then codes "The value at another time is `X attime T`.\n"
+    else if b == 92 then codes "A function is written with a name, as `f(x) = x + 1;`.\n"
+    else if b == 36 then codes "A name begins with a letter, and has letters, digits and `_` alone.\n"
+    else if b == 0 then codes "A byte 0 stands here: the file may be UTF-16, or no text. Save it as ASCII or UTF-8.\n"
     else if nat_lt b 32 || nat_lt 126 b then codes "Only in comments may other bytes stand than printable ASCII, tabs and line ends.\n"
     else codes "No token begins with this byte.\n"
 
@@ -41,7 +44,7 @@ ends_name before = nat_lt 0 (suffix_len is_name_byte before)
 -- of a byte directly behind a name
 abbrev pub behind_advice : ℕ → List ℕ
 behind_advice b =
-    if b == 39 then codes "A name has letters, digits and `_` alone.\n"
+    if b == 39 then codes "A name has letters, digits and `_` alone, and a string has no ' in it.\n"
     else if b == 91 then codes "The value of n at time 2 is `n attime 2`, and item 2 of a list l, from 0, is `nth(l, 2)`.\n"
     else byte_advice b
 
@@ -51,12 +54,16 @@ ascii_advice before b = if ends_name before then behind_advice b else byte_advic
 
 -- of bytes with which no token begins, by what stands before them
 abbrev pub bad_advice : (before rest : List ℕ) → List ℕ
-bad_advice before rest = if nat_lt 127 (slice_index rest 0) then character_advice rest else ascii_advice before (slice_index rest 0)
+bad_advice before rest =
+    if nat_lt 127 (slice_index rest 0) then character_advice rest
+    else if begins rest (codes "/=") then differs_advice
+    else ascii_advice before (slice_index rest 0)
 
 -- of a string or a list that has no end, or is no value, which begins so
 abbrev pub open_advice : (rest : List ℕ) → List ℕ
 open_advice rest =
     if begins rest (codes "```") then codes "The fence ``` of a page is no part of a program: leave it out.\n"
+    else if begins rest (codes "`mod`") || begins rest (codes "`div`") then codes "An operator stands without quotation marks, as in `n mod 2`.\n"
     else if slice_index rest 0 == 96 then string_advice
     else list_advice
 

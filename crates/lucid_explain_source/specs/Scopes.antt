@@ -1,4 +1,4 @@
--- The definitions in scope at a place of a tree: those of an inner block before those of an outer one, and those of a block in order.
+-- The definitions in scope at a place of a tree: those of an inner block before those of an outer one, and those of a block in order. And all of them.
 use Rattle.std.specs.Prelude.{ℕ, List, [], ◌∷◌, ◌++◌, map, Bool, false, ◌||◌, nat_eq, if◌then◌else◌}
 use Rattle.std.specs.Borrow.{Bor}
 use Rattle.std.specs.List.{list_any}
@@ -75,3 +75,22 @@ abbrev mutual
       in_scope at right ++ (listed_if (sees_block at here (Function names places right) (has_place at right)) whole ++ in_scope_defs at whole more)
   in_scope_defs at whole (defines_current here n right more) =
       in_scope at right ++ (listed_if (sees_block at here (Current right) (has_place at right)) whole ++ in_scope_defs at whole more)
+
+-- all definitions of a tree, in scope or not
+abbrev mutual
+  pub all_defs : PlainTree → List Def
+  all_defs (form here head parts) = all_defs_in parts
+  all_defs (name here n) = []
+  all_defs (call here n args) = all_defs_in args
+  all_defs (block here subject defs) = all_defs subject ++ (listed defs ++ all_defs_under defs)
+
+  pub all_defs_in : PlainTrees → List Def
+  all_defs_in no_trees = []
+  all_defs_in (tree one more) = all_defs one ++ all_defs_in more
+
+  -- those in the right sides of definitions
+  pub all_defs_under : PlainDefs → List Def
+  all_defs_under no_defs = []
+  all_defs_under (defines here n right more) = all_defs right ++ all_defs_under more
+  all_defs_under (defines_function here n names places right more) = all_defs right ++ all_defs_under more
+  all_defs_under (defines_current here n right more) = all_defs right ++ all_defs_under more

@@ -6,7 +6,7 @@ ghost use Rattle.lucid_scan.specs.Refusals.{Refuses, most_source_bytes};
 ghost use Rattle.lucid_explain_source.specs.Advice.{byte_advice, ends_name, behind_advice, ascii_advice, bad_advice, open_advice, big_advice, long_advice, scan_text};
 ghost use Rattle.lucid_explain_places.specs.Shown.{place_text};
 
-use crate::characters::{begins, character_advice};
+use crate::characters::{DIFFERS, begins, character_advice};
 use lucid_explain_places::put_place;
 use lucid_scan::ScanRefusal;
 use lucid_value::is_name_byte;
@@ -30,17 +30,22 @@ fn byte_advice(byte: u8) -> &'static [u8]
             b"Between two \" stands one word: a letter, then letters and digits. The truths `true` and `false` stand without \", and other texts between a backquote and '.\n",
         b'\'' => STRING,
         b'!' => b"Write `ne` for what differs, and `not` before a truth.\n",
-        b'&' => b"Write `and`.\n",
-        b'|' => b"Write `or`.\n",
+        b'&' => b"Write `and`, and to join strings `^`.\n",
+        b'|' => b"Write `or`. Cases are told apart by `if .. then .. else .. fi`.\n",
         b'%' => b"What a division leaves over is `mod`.\n",
         b'[' | b']' => LIST,
         b'{' | b'}' => b"Parentheses group, and definitions stand between `where` and `end`.\n",
-        b'_' => b"A name begins with a letter.\n",
-        b':' => b"A definition is written with `=`, and `::` puts a value in front of a list.\n",
+        b'_' => b"A name begins with a letter, and a number has digits alone.\n",
+        b':' =>
+            b"A definition is written with `=`, as `n = 0 fby n + 1;` or `f(x) = x + 1;`, and `::` puts a value in front of a list. Behind a test stands `then`.\n",
         b'?' => b"A choice is written `if .. then .. else .. fi`.\n",
         b'#' => b"A comment begins with `//`.\n",
         b'@' => b"The value at another time is `X attime T`.\n",
-        0..=31 | 127..=255 =>
+        b'\\' => b"A function is written with a name, as `f(x) = x + 1;`.\n",
+        b'$' => b"A name begins with a letter, and has letters, digits and `_` alone.\n",
+        0 =>
+            b"A byte 0 stands here: the file may be UTF-16, or no text. Save it as ASCII or UTF-8.\n",
+        1..=31 | 127..=255 =>
             b"Only in comments may other bytes stand than printable ASCII, tabs and line ends.\n",
         _ => b"No token begins with this byte.\n",
     }
@@ -69,7 +74,7 @@ fn behind_advice(byte: u8) -> &'static [u8]
     ensures { result.now ≡ behind_advice byte }
 {
     match byte {
-        b'\'' => b"A name has letters, digits and `_` alone.\n",
+        b'\'' => b"A name has letters, digits and `_` alone, and a string has no ' in it.\n",
         b'[' =>
             b"The value of n at time 2 is `n attime 2`, and item 2 of a list l, from 0, is `nth(l, 2)`.\n",
         _ => byte_advice(byte),
@@ -95,6 +100,8 @@ fn bad_advice(before: &[u8], rest: &[u8]) -> &'static [u8]
     let byte = rest[0];
     if byte > 127 {
         character_advice(rest)
+    } else if begins(rest, b"/=") {
+        DIFFERS
     } else {
         ascii_advice(before, byte)
     }
@@ -107,6 +114,8 @@ fn open_advice(rest: &[u8]) -> &'static [u8]
 {
     if begins(rest, b"```") {
         b"The fence ``` of a page is no part of a program: leave it out.\n"
+    } else if begins(rest, b"`mod`") || begins(rest, b"`div`") {
+        b"An operator stands without quotation marks, as in `n mod 2`.\n"
     } else if rest[0] == b'`' {
         STRING
     } else {

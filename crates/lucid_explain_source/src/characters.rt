@@ -21,6 +21,8 @@ const QUOTE: &[u8] =
 
 const DASH: &[u8] = b"Here stands a dash: minus is the plain `-`.\n";
 
+pub(crate) const DIFFERS: &[u8] = b"Write `ne`.\n";
+
 const PRODUCT: &[u8] = b"A product is written with `*`.\n";
 
 const CHARACTERS: [Character; 23] = [
@@ -102,7 +104,7 @@ const CHARACTERS: [Character; 23] = [
     },
     Character {
         bytes: b"\xe2\x89\xa0",
-        advice: b"Write `ne`.\n",
+        advice: DIFFERS,
     },
     Character {
         bytes: b"\xc3\x97",

@@ -1,7 +1,7 @@
-//! The definitions in scope at a place of a tree.
+//! The definitions in scope at a place of a tree, and all of them.
 ghost use Rattle.std.specs.Prelude.{◌≡◌, ◌++◌, ◌||◌, nat_eq, IfOk, OnOk};
 ghost use Rattle.std.specs.List.{list_any};
-ghost use Rattle.lucid_explain_source.specs.Scopes.{lent, listed, listed_if, is_headed, sees_block, has_place, has_place_in, has_place_in_defs, in_scope, in_scope_in, in_scope_defs};
+ghost use Rattle.lucid_explain_source.specs.Scopes.{lent, listed, listed_if, is_headed, sees_block, has_place, has_place_in, has_place_in_defs, in_scope, in_scope_in, in_scope_defs, all_defs, all_defs_in, all_defs_under};
 
 use lucid_tree::{Def, DefKind, Definitions, Defs, Parts, Shape, Tree};
 use std::alloc::AllocError;
@@ -146,4 +146,50 @@ fn find_in_defs<'a>(found: &mut Vec<&'a Def>, defs: &'a Defs, at: u32) -> Result
         inside = inside || (is_headed(def, at) || here);
     }
     Ok(inside)
+}
+
+/// Finds all definitions of the tree.
+#[cycle(everywhere)]
+pub fn find_everywhere<'a>(found: &mut Vec<&'a Def>, tree: &'a Tree) -> Result<(), AllocError>
+    ensures { OnOk result (lent found.new.items ≡ lent found.old.items ++ all_defs tree.now) }
+{
+    match tree.shape() {
+        Shape::Name { .. } => Ok(()),
+        Shape::Form { parts, .. } => find_under_parts(found, parts),
+        Shape::Call { args, .. } => find_under_parts(found, args.parts()),
+        Shape::Scope { subject, defs, .. } => find_under_block(found, subject, defs),
+    }
+}
+
+#[cycle(everywhere)]
+fn find_under_block<'a>(
+    found: &mut Vec<&'a Def>,
+    subject: &'a Tree,
+    defs: &'a Defs,
+) -> Result<(), AllocError>
+    ensures { OnOk result (lent found.new.items ≡ lent found.old.items ++ (all_defs subject.now ++ (listed defs.now ++ all_defs_under defs.now))) }
+{
+    find_everywhere(found, subject)?;
+    find_all(found, defs.definitions())?;
+    find_under_defs(found, defs.definitions())
+}
+
+#[cycle(everywhere)]
+fn find_under_parts<'a>(found: &mut Vec<&'a Def>, parts: Parts<'a>) -> Result<(), AllocError>
+    ensures { OnOk result (lent found.new.items ≡ lent found.old.items ++ all_defs_in parts.entry) }
+{
+    for part in parts {
+        find_everywhere(found, part)?;
+    }
+    Ok(())
+}
+
+#[cycle(everywhere)]
+fn find_under_defs<'a>(found: &mut Vec<&'a Def>, defs: Definitions<'a>) -> Result<(), AllocError>
+    ensures { OnOk result (lent found.new.items ≡ lent found.old.items ++ all_defs_under defs.entry) }
+{
+    for def in defs {
+        find_everywhere(found, def.right())?;
+    }
+    Ok(())
 }

@@ -486,7 +486,7 @@ static HINTS: [Ends; 70] = [
 ];
 
 // Bytes that are no tokens, the same.
-static CHARACTERS: [Ends; 14] = [
+static CHARACTERS: [Ends; 23] = [
     Ends {
         source: b"\xef\xbb\xbf1",
         begin: "bad byte at 0\n",
@@ -545,12 +545,57 @@ static CHARACTERS: [Ends; 14] = [
     Ends {
         source: b"x' where x' = 1; end",
         begin: "bad byte at 1\n",
-        end: "^\nA name has letters, digits and `_` alone.\n",
+        end: "^\nA name has letters, digits and `_` alone, and a string has no ' in it.\n",
     },
     Ends {
         source: b"n[0]",
         begin: "bad byte at 1\n",
         end: "^\nThe value of n at time 2 is `n attime 2`, and item 2 of a list l, from 0, is `nth(l, 2)`.\n",
+    },
+    Ends {
+        source: b"n /= 3",
+        begin: "bad byte at 2\n",
+        end: "^\nWrite `ne`.\n",
+    },
+    Ends {
+        source: b"n `mod` 2",
+        begin: "open text at 2\n",
+        end: "^\nAn operator stands without quotation marks, as in `n mod 2`.\n",
+    },
+    Ends {
+        source: b"f(3) where f = \\x; end",
+        begin: "bad byte at 15\n",
+        end: "^\nA function is written with a name, as `f(x) = x + 1;`.\n",
+    },
+    Ends {
+        source: b"$n",
+        begin: "bad byte at 0\n",
+        end: "^\nA name begins with a letter, and has letters, digits and `_` alone.\n",
+    },
+    Ends {
+        source: b"1_000",
+        begin: "bad byte at 1\n",
+        end: "^\nA name begins with a letter, and a number has digits alone.\n",
+    },
+    Ends {
+        source: b"\"a\" & \"b\"",
+        begin: "bad byte at 4\n",
+        end: "^\nWrite `and`, and to join strings `^`.\n",
+    },
+    Ends {
+        source: b"a | b",
+        begin: "bad byte at 2\n",
+        end: "^\nWrite `or`. Cases are told apart by `if .. then .. else .. fi`.\n",
+    },
+    Ends {
+        source: b"n where n := 1; end",
+        begin: "bad byte at 10\n",
+        end: "^\nA definition is written with `=`, as `n = 0 fby n + 1;` or `f(x) = x + 1;`, and `::` puts a value in front of a list. Behind a test stands `then`.\n",
+    },
+    Ends {
+        source: b"\x00n\x00 ",
+        begin: "bad byte at 0\n",
+        end: "^\nA byte 0 stands here: the file may be UTF-16, or no text. Save it as ASCII or UTF-8.\n",
     },
     Ends {
         source: b"1 + 'dog'",
