@@ -1,0 +1,4 @@
+pub mod Loops
+pub mod Chains
+pub mod Escaping
+pub mod Columns

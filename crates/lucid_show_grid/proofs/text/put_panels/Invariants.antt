@@ -1,0 +1,8 @@
+use Rattle.std.proofs.Common.{map, ◌≡◌, ◌++◌, drop}
+use Rattle.lucid_show_grid.specs.Grids.{plain_panel}
+use Rattle.lucid_show_grid.specs.Text.{panels_text}
+use Rattle.lucid_show_grid.proofs.text.put_panels.Given as goal
+
+-- what is written and what is left are all
+abbrev pub invariant-loop-panel : goal.invariant-loop-panel
+invariant-loop-panel l = l.to.items ++ panels_text (map plain_panel (drop l.panel-index l.panels)) ≡ l.initial.to.items ++ panels_text (map plain_panel l.panels)

@@ -1,0 +1,10 @@
+pub mod Grids
+pub mod Fields
+pub mod Widths
+pub mod Text
+pub mod Escapes
+pub mod Places
+pub mod Arrows
+pub mod Boxes
+pub mod Picture
+pub mod Laws
