@@ -2,3 +2,4 @@ pub mod Loops
 pub mod Chains
 pub mod Escaping
 pub mod Columns
+pub mod Found

@@ -1,5 +1,5 @@
 -- Where the boxes of a picture stand, in pixels: a letter is 8 wide, a box 30 high, lines stand 64 apart, and boxes beside each other 26.
-use Rattle.std.specs.Prelude.{ℕ, ◌+◌, ◌*◌, ◌/◌, ◌==◌, List, [], ◌∷◌, ◌++◌, map, length, if◌then◌else◌}
+use Rattle.std.specs.Prelude.{ℕ, ◌+◌, ◌*◌, ◌/◌, ◌<◌, ◌==◌, slice_index, List, [], ◌∷◌, ◌++◌, map, length, if◌then◌else◌}
 use Rattle.lucid_show_grid.specs.Grids.{PlainMark, PlainLine, PlainPanel, plain_mark}
 use Rattle.lucid_show_grid.specs.declared.places.Frame.{Frame}
 use Rattle.lucid_show_grid.specs.declared.places.Place.{Place}
@@ -20,6 +20,10 @@ middle p = p.x + p.width / 2
 abbrev pub index_of : List ℕ → (time : ℕ) → ℕ
 index_of [] t = 0
 index_of (u ∷ us) t = if u == t then 0 else index_of us t + 1
+
+-- each time before a column is before the time of that column
+abbrev pub HasRisen : (times : List ℕ) → (column : ℕ) → Type 0
+HasRisen ts i = (k : ℕ) → k < i → slice_index ts k < slice_index ts i
 
 -- a value, and where its box stands
 pub record PlainPlaced : Type 0 where

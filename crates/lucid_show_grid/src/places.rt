@@ -1,7 +1,7 @@
 //! Where the boxes of a picture stand, in pixels.
-ghost use Rattle.std.specs.Prelude.{◌≡◌, ◌+◌, ◌*◌, ◌++◌, IfOk, OnOk, map};
+ghost use Rattle.std.specs.Prelude.{◌≡◌, ◌+◌, ◌*◌, ◌++◌, IfOk, IfSome, OnOk, map};
 ghost use Rattle.lucid_show_grid.specs.Grids.{plain_line, plain_mark, plain_panel};
-ghost use Rattle.lucid_show_grid.specs.Places.{frame_of, place_at, middle, index_of, plain_placed, place_mark, place_lines, height, below, place_panels, bottom};
+ghost use Rattle.lucid_show_grid.specs.Places.{HasRisen, frame_of, place_at, middle, index_of, plain_placed, place_mark, place_lines, height, below, place_panels, bottom};
 
 use crate::grid::{Line, Mark, Panel};
 use crate::widths::columns_of;
@@ -28,6 +28,13 @@ pub(crate) struct Place {
 pub(crate) struct Placed<'a> {
     pub(crate) place: Place,
     pub(crate) mark: &'a Mark,
+}
+
+// The column of a time, and a column up to which the times rise.
+#[derive(Clone, Copy)]
+struct Found {
+    column: usize,
+    risen: usize,
 }
 
 /// The sum of two lengths.
@@ -94,6 +101,44 @@ fn index_of(times: &[u64], time: u64) -> usize
     times.len()
 }
 
+// The column of a time, where it isn't before a column up to which the times rise, nor behind a later time.
+#[tactic(auto, using(crate::proofs::Found::first_at))]
+fn column_behind(times: &[u64], risen: usize, time: u64) -> Option<usize>
+    requires { HasRisen times.now risen }
+    ensures { IfSome result (λ column. (column ≡ index_of times.now time) × HasRisen times.now column) }
+{
+    if risen >= times.len() || times[risen] > time {
+        return None;
+    }
+    for column in risen..times.len() {
+        if times[column] == time {
+            return Some(column);
+        }
+        if times[column] > time {
+            return None;
+        }
+    }
+    None
+}
+
+// The column of a time. In a line the times rise, so it is mostly found by going on from the one before, and not from the first.
+fn find_column(times: &[u64], risen: usize, time: u64) -> Found
+    requires { HasRisen times.now risen }
+    ensures column { result.column ≡ index_of times.now time }
+    ensures risen { HasRisen times.now result.risen }
+{
+    match column_behind(times, risen, time) {
+        Some(column) => Found {
+            column,
+            risen: column,
+        },
+        None => Found {
+            column: index_of(times, time),
+            risen,
+        },
+    }
+}
+
 // The values of a line, each in the column of its time.
 #[tactic(auto, using(crate::proofs::Loops::place_marks_more))]
 fn place_marks<'a>(
@@ -105,9 +150,12 @@ fn place_marks<'a>(
 ) -> Result<(), AllocError>
     ensures { OnOk result (map plain_placed placed.new.items ≡ map plain_placed placed.old.items ++ map (place_mark frame times.now line) (map plain_mark marks.now)) }
 {
+    let mut risen = 0;
     for mark in marks {
-        let place = place_at(frame, line, index_of(times, mark.time) as u64)?;
+        let found = find_column(times, risen, mark.time);
+        let place = place_at(frame, line, found.column as u64)?;
         placed.push(Placed { place, mark })?;
+        risen = found.risen;
     }
     Ok(())
 }
