@@ -3,3 +3,5 @@ pub mod Chains
 pub mod Escaping
 pub mod Columns
 pub mod Found
+pub mod Apart
+pub mod Stand
