@@ -88,7 +88,7 @@ def programs(page):
             inputs[it.words] = it.text
         elif it.kind == "shown":
             check(found, f"line {it.at}: no program stands before it")
-            found[-1].shown.append((shlex.split(it.words), it.text))
+            found[-1].shown.append(it)
         elif it.kind in ("output", "report", "explained"):
             check(found, f"line {it.at}: no program stands before it")
             kind = "out" if it.kind == "output" else it.kind
@@ -99,9 +99,9 @@ def programs(page):
     return found
 
 
-def call_above(line):
-    """The words of the last call in a line, without the command and the program's file, or none."""
-    calls = [shlex.split(it) for it in spans(line) if re.match(r"lucid(_explain)? ", it) and "|" not in it]
+def call_above(line, command=r"lucid(_explain)?"):
+    """The words of the last call in a line, without the command, the program's file and where the output goes, or none."""
+    calls = [shlex.split(it.split(" > ")[0]) for it in spans(line) if re.match(f"{command} ", it) and "|" not in it]
     return [it for it in calls[-1][1:] if it != "program.lucid"] if calls else None
 
 
@@ -127,8 +127,10 @@ def one(name, shown_program):
         run.lucid("program.lucid", *it.words, given=it.inputs.get("-", "")).must(it.out, it.status, it.report)
         if it.explained is not None:
             run.explaining().lucid("program.lucid", *it.words, given=it.inputs.get("-", "")).must(it.out, it.status, it.explained)
-        for words, text in it.shown:
-            run.showing().lucid("program.lucid", *words, given=it.inputs.get("-", "")).must(text)
+        for fence in it.shown:
+            words, call = shlex.split(fence.words), call_above(fence.above, "lucid_show")
+            check(call is None or sorted(call) == sorted(words), f"line {fence.at}: the call above it has the words {shown(call)}")
+            run.showing().lucid("program.lucid", *words, given=it.inputs.get("-", "")).must(fence.text)
     return Case(f"{name} line {shown_program.at}", work)
 
 
