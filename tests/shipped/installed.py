@@ -254,10 +254,15 @@ def what_the_checker_says(run):
     it = Install(run)
     it.install()
     tried = [
-        ("1_threes", "2 * n + 5 where n = 0 fby n + 1; end", 1, "The first difference is at time 1.\n  wanted: 8\n  yours:  7\n"),
+        ("1_threes", "2 * n + 5 where n = 0 fby n + 1; end", 1, "The first difference is at time 1.\n  wanted: 8\n  yours:  7\nWhat it was computed from:\noutput at 1 is 7   = 2 * n at 1 + 5\n"
+         "  n at 1 is 1   = n at 0 + 1\n    n at 0 is 0   = 0\n"),
         ("8_below", "1 fby 3 fby eod", 1, "The first difference is at time 2.\n  wanted: 9\n  yours:  no line: the run ended with status 0\n"),
-        ("8_below", "p where p = 1 fby 3 * p; end", 1,
-         "The first difference is at time 7.\n  wanted: no more lines: the program ends here\n  yours:  2187\n"),
+        ("8_below", "if p < 2000 then p else p fi where p = 1 fby 3 * p; end", 1,
+         "The first difference is at time 7.\n  wanted: no more lines: the program ends here\n  yours:  2187\nWhat it was computed from:\n"
+         "output at 7 is 2187   = p at 7 < 2000 is false, so p at 7\n"
+         + "".join(f"{'  ' * (8 - t)}p at {t} is {3 ** t}   = 3 * p at {t - 1}\n" for t in range(7, 0, -1)) + f"{'  ' * 8}p at 0 is 1   = 1\n"),
+        ("4_columns", "c where n = 0 fby n + 1; a = n; b = n * n; c = b fby c + next b; end", 1,
+         "The first difference is at time 2.\n  wanted: 2\t8\t9\n  yours:  2\t4\t5\n"),
         ("10_four", "n whenever n < 4 where n = 0 fby n + 1; end", 1,
          "The lines are right, and then the run ended with status 5: the program should end by itself.\n"),
         ("1_threes", "3 * m + 5 where n = 0 fby n + 1; end", 1,
