@@ -41,7 +41,7 @@ is_call word rest = nat_lt 0 (length word) && not (is_reserved word) && begins (
 -- what is said of a depth, by the word with which the rest of a source begins at the place where it isn't judged: of a search, of a function, and else
 abbrev pub place_advice : (word rest : List ℕ) → List ℕ
 place_advice word rest =
-    if is_search word then codes "\nHere is a search: it looks at times below the depth limit alone. If its test isn't true often enough there, there may be no depth that is enough.\n"
+    if is_search word then codes "\nHere is a search: it looks at times below the depth limit alone. If its test is never true again, no depth is enough: --count asks for the lines that there are. If it is true later:\n"
     else if is_call word rest then codes "\nHere is a function: one that calls itself without an end has no value at any depth. An `if` that doesn't call it gives an end.\n"
     else codes "\nSo no depth is told for this program.\n"
 
@@ -50,8 +50,11 @@ unjudged_advice source (Outside at) = place_advice (name_at source at) (drop at 
 unjudged_advice source TooMany = codes "\nSo no depth is told for this program.\n"
 unjudged_advice source NoMemory = []
 
-abbrev pub greater_advice : List ℕ
-greater_advice = codes "A greater --depth may be enough, up to 1000000.\n"
+-- what else may be tried, by the limit at which the value is too deep
+abbrev pub greater_advice : (limit : ℕ) → List ℕ
+greater_advice limit =
+    if nat_lt limit most_depth then codes "A greater --depth may be enough, up to 1000000.\n"
+    else codes "The limit is the greatest --depth already, 1000000.\n"
 
 -- what a judgment means for the value at a time
 abbrev pub meaning_text : (time : ℕ) → Judgment → List ℕ
@@ -67,14 +70,14 @@ refusal_text (Outside at) = codes "not judged at " ++ decimal at
 refusal_text TooMany = codes "too many names"
 refusal_text NoMemory = codes "no memory"
 
-abbrev pub unjudged_text : (source : List ℕ) → JudgeRefusal → List ℕ
-unjudged_text source why = codes "`--cycles` says: " ++ (refusal_text why ++ (unjudged_advice source why ++ greater_advice))
+abbrev pub unjudged_text : (source : List ℕ) → (limit : ℕ) → JudgeRefusal → List ℕ
+unjudged_text source limit why = codes "`--cycles` says: " ++ (refusal_text why ++ (unjudged_advice source why ++ greater_advice limit))
 
 -- The text tells the judgment of cycles of the source, or why there is none; or nothing, where the source is refused. A depth that is told is
 -- enough: at it the value at the time is defined.
-pub data TellsDepth (source : List ℕ) (time : ℕ) (text : List ℕ) : Type 0 where
-  nothing : IsTurnedDown source → text ≡ [] → TellsDepth source time text
+pub data TellsDepth (source : List ℕ) (limit time : ℕ) (text : List ℕ) : Type 0 where
+  nothing : IsTurnedDown source → text ≡ [] → TellsDepth source limit time text
   judged : (scoped : Scoped) (judgment : Judgment) → IsProgram source (scoped_tree scoped) → IsJudgment (scoped_tree scoped) (scoped_binding scoped) judgment
-      → IsDefinedAsJudged (scoped_tree scoped) judgment → text ≡ judged_text (scoped_tree scoped) time judgment → TellsDepth source time text
+      → IsDefinedAsJudged (scoped_tree scoped) judgment → text ≡ judged_text (scoped_tree scoped) time judgment → TellsDepth source limit time text
   unjudged : (scoped : Scoped) (why : JudgeRefusal) → why ≢ NoMemory → IsProgram source (scoped_tree scoped) → IsJudgeRefusal (scoped_tree scoped) why
-      → text ≡ unjudged_text source why → TellsDepth source time text
+      → text ≡ unjudged_text source limit why → TellsDepth source limit time text

@@ -1,5 +1,5 @@
--- What is said of inputs that have no file: the name of each, where it stands first, and a definition in scope there whose name differs by little.
-use Rattle.std.specs.Prelude.{◌≡◌, ℕ, suc, ◌+◌, ◌*◌, ◌<◌, List, [], ◌∷◌, ◌++◌, length, map, find, min, max, Bool, ◌&&◌, ◌||◌, nat_le, nat_lt, Option, None, Some, Contains, codes, nat_eq}
+-- What is said of inputs that have no file: the name of each, where it stands first, and what may be meant by it.
+use Rattle.std.specs.Prelude.{◌≡◌, ℕ, suc, ◌+◌, ◌*◌, ◌<◌, List, [], ◌∷◌, ◌++◌, length, map, find, min, max, Bool, ◌&&◌, ◌||◌, ◌==◌, nat_le, nat_lt, Option, None, Some, Contains, codes, nat_eq, if◌then◌else◌}
 use Rattle.std.specs.Borrow.{Bor}
 use Rattle.std.specs.List.{slice_get, flat_map}
 use Rattle.std.specs.Option.{option_or, option_copied}
@@ -14,7 +14,8 @@ use Rattle.lucid_explain_run.specs.declared.inputs.Lacking.{Lacking}
 use Rattle.lucid_explain_source.specs.Accepted.{IsProgram, IsTurnedDown}
 use Rattle.lucid_explain_places.specs.Positions.{where_text}
 use Rattle.lucid_explain_source.specs.Definitions.{name_text, definition_text}
-use Rattle.lucid_explain_source.specs.Scopes.{in_scope}
+use Rattle.lucid_explain_places.specs.Hints.{is_capital}
+use Rattle.lucid_explain_source.specs.Scopes.{in_scope, all_defs}
 
 -- The name at a place belongs to the input of this number.
 abbrev pub StandsAt : Scoped → (stream : ℕ) → (at : ℕ) → Type 0
@@ -45,12 +46,19 @@ is_near most name other = nat_le (max (length name) (length other)) 40 && (is_al
 abbrev pub nearest : (name : List ℕ) → List Def → Option Def
 nearest name defs = option_or (find (λ d. is_near 1 name d.name) defs) (find (λ d. is_near 2 name d.name) defs)
 
--- The input of this number has no file among those given: its name, its first place, and the definition in scope there whose name is nearest.
+-- the first definition of the name
+abbrev pub first_named : (name : List ℕ) → List Def → Option Def
+first_named name defs = find (λ d. same_bytes d.name name) defs
+
+-- The input of this number has no file among those given: its name, its first place, the definition in scope there whose name is nearest, the first
+-- definition of its name anywhere, and whether it is a reserved word but for capital letters.
 pub record IsLacking (scoped : Scoped) (given : List (List ℕ)) (stream : ℕ) (l : Lacking) : Type 0 where
   pub named : slice_get (scoped_inputs scoped) stream ≡ Some l.name.now
   pub free : Contains given l.name.now → ⊥
   pub first : StandsFirst scoped stream l.at
   pub near : option_copied l.near ≡ nearest l.name.now (in_scope l.at (scoped_tree scoped))
+  pub elsewhere : option_copied l.elsewhere ≡ first_named l.name.now (all_defs (scoped_tree scoped))
+  pub capital : l.is_capital ≡ is_capital l.name.now
 
 -- The input of this number has this name and no file among those given, and stands at a place before the end.
 pub record IsWanted (scoped : Scoped) (given : List (List ℕ)) (end stream : ℕ) (name : List ℕ) : Type 0 where
@@ -75,16 +83,38 @@ pub data AreFirst (scoped : Scoped) (given : List (List ℕ)) (end : ℕ) : (roo
 abbrev pub AreLacking : Scoped → (given : List (List ℕ)) → (end : ℕ) → List Lacking → Type 0
 AreLacking scoped given end those = AreFirst scoped given end 6 0 (scoped_inputs scoped) those
 
-abbrev pub near_text : (source : List ℕ) → Option (Bor Def) → List ℕ
-near_text source None = []
-near_text source (Some d) = codes "It may be misspelt: " ++ definition_text source d.now
+-- What may be meant by a name that nothing defines where it stands: a definition of it elsewhere, a reserved word, a definition whose name is near;
+-- else other things. First of a definition whose name is near.
+abbrev pub near_text : (source other : List ℕ) → Option (Bor Def) → List ℕ
+near_text source other None = other
+near_text source other (Some d) = codes "It may be misspelt: " ++ definition_text source d.now
+
+-- of a reserved word
+unfoldable pub spelled_text : (source other : List ℕ) → Lacking → List ℕ
+spelled_text source other l =
+    if l.is_capital then codes "It may be misspelt: reserved words have small letters, as `true`.\n" else near_text source other l.near
+
+-- of a definition that isn't in scope
+abbrev pub outside_advice : List ℕ
+outside_advice = codes "A definition isn't in scope outside its block, nor in the right side of an `is current`: "
+
+abbrev pub outside_text : (source : List ℕ) → Def → List ℕ
+outside_text source d = outside_advice ++ definition_text source d
+
+abbrev pub elsewhere_text : (source other : List ℕ) → Lacking → Option (Bor Def) → List ℕ
+elsewhere_text source other l None = spelled_text source other l
+elsewhere_text source other l (Some d) = outside_text source d.now
+
+-- of all three
+unfoldable pub meant_text : (source other : List ℕ) → Lacking → List ℕ
+meant_text source other l = elsewhere_text source other l l.elsewhere
 
 -- where a name stands first, in words
 abbrev pub first_text : (source : List ℕ) → (at : ℕ) → List ℕ
 first_text source at = where_text (codes " stands first in line ") source at
 
 abbrev pub lacking_text : (source : List ℕ) → Lacking → List ℕ
-lacking_text source l = name_text l.name.now ++ (first_text source (min (length source) l.at) ++ near_text source l.near)
+lacking_text source l = name_text l.name.now ++ (first_text source (min (length source) l.at) ++ meant_text source [] l)
 
 -- a word that gives a file
 abbrev pub word_text : Lacking → List ℕ
@@ -104,3 +134,17 @@ pub data TellsInputs (source : List ℕ) (given : List (List ℕ)) (text : List 
   nothing : IsTurnedDown source → text ≡ [] → TellsInputs source given text
   lacking : (scoped : Scoped) (those : List Lacking) → IsProgram source (scoped_tree scoped)
       → AreLacking scoped given (length source) those → text ≡ inputs_text source those → TellsInputs source given text
+
+-- the inputs of a program, where it has some
+abbrev pub named_text : (source : List ℕ) → List Lacking → List ℕ
+named_text source those = codes "The inputs of the program:\n" ++ flat_map (lacking_text source) those
+
+-- the inputs of a program, where a file is given for a name that is none
+abbrev pub free_text : (source : List ℕ) → List Lacking → List ℕ
+free_text source those = if length those == 0 then codes "The program has no input.\n" else named_text source those
+
+-- The text tells the inputs of the source, or the first six; or nothing, where the source is refused.
+pub data TellsFree (source text : List ℕ) : Type 0 where
+  nothing_free : IsTurnedDown source → text ≡ [] → TellsFree source text
+  all_inputs : (scoped : Scoped) (those : List Lacking) → IsProgram source (scoped_tree scoped)
+      → AreLacking scoped [] (length source) those → text ≡ free_text source those → TellsFree source text

@@ -86,7 +86,7 @@ fn place_advice(word: &[u8], rest: &[u8]) -> &'static [u8]
     ensures { result.now ≡ place_advice word.now rest.now }
 {
     if is_search(word) {
-        b"\nHere is a search: it looks at times below the depth limit alone. If its test isn't true often enough there, there may be no depth that is enough.\n"
+        b"\nHere is a search: it looks at times below the depth limit alone. If its test is never true again, no depth is enough: --count asks for the lines that there are. If it is true later:\n"
     } else if is_call(word, rest) {
         b"\nHere is a function: one that calls itself without an end has no value at any depth. An `if` that doesn't call it gives an end.\n"
     } else {
@@ -144,28 +144,49 @@ fn put_refusal(text: &mut Vec<u8>, refusal: &JudgeRefusal) -> Result<(), AllocEr
     }
 }
 
-// That a depth may be given which is greater.
-fn greater_advice() -> &'static [u8]
-    ensures { result.now ≡ greater_advice }
+/// A value that is too deep at a depth limit, and its time.
+#[derive(Clone, Copy, Debug, PartialEq, Eq)]
+pub struct TooDeep {
+    pub limit: u32,
+    pub time: u64,
+}
+
+// That a depth may be given which is greater, or that the limit is the greatest.
+fn greater_advice(limit: u32) -> &'static [u8]
+    ensures { result.now ≡ greater_advice limit }
 {
-    b"A greater --depth may be enough, up to 1000000.\n"
+    if u64::from(limit) < MOST_DEPTH {
+        b"A greater --depth may be enough, up to 1000000.\n"
+    } else {
+        b"The limit is the greatest --depth already, 1000000.\n"
+    }
 }
 
 // Appends what it means for a depth that a program isn't judged.
-fn put_advice(text: &mut Vec<u8>, source: &[u8], refusal: &JudgeRefusal) -> Result<(), AllocError>
-    ensures { OnOk result (text.new.items ≡ text.old.items ++ (unjudged_advice source.now refusal.now ++ greater_advice)) }
+fn put_advice(
+    text: &mut Vec<u8>,
+    source: &[u8],
+    limit: u32,
+    refusal: &JudgeRefusal,
+) -> Result<(), AllocError>
+    ensures { OnOk result (text.new.items ≡ text.old.items ++ (unjudged_advice source.now refusal.now ++ greater_advice limit)) }
 {
     text.extend_from_slice(unjudged_advice(source, refusal))?;
-    text.extend_from_slice(greater_advice())
+    text.extend_from_slice(greater_advice(limit))
 }
 
 // Appends why a program isn't judged, and what that means.
-fn put_unjudged(text: &mut Vec<u8>, source: &[u8], refusal: &JudgeRefusal) -> Result<(), AllocError>
-    ensures { OnOk result (text.new.items ≡ text.old.items ++ unjudged_text source.now refusal.now) }
+fn put_unjudged(
+    text: &mut Vec<u8>,
+    source: &[u8],
+    limit: u32,
+    refusal: &JudgeRefusal,
+) -> Result<(), AllocError>
+    ensures { OnOk result (text.new.items ≡ text.old.items ++ unjudged_text source.now limit refusal.now) }
 {
     text.extend_from_slice(b"`--cycles` says: ")?;
     put_refusal(text, refusal)?;
-    put_advice(text, source, refusal)
+    put_advice(text, source, limit, refusal)
 }
 
 // What is said of a source by its judgment.
@@ -174,15 +195,15 @@ fn text_of_judgment(
     source: &[u8],
     scoped: &Scoped,
     judgment: &Judgment,
-    time: u64,
+    deep: TooDeep,
 ) -> Result<Vec<u8>, AllocError>
     requires program { IsProgram source.now (scoped_tree scoped.now) }
     requires judged { IsJudgment (scoped_tree scoped.now) (scoped_binding scoped.now) judgment.now }
     requires enough { IsDefinedAsJudged (scoped_tree scoped.now) judgment.now }
-    ensures { IfOk result (λ text. TellsDepth source.now time text.items) }
+    ensures { IfOk result (λ text. TellsDepth source.now deep.limit deep.time text.items) }
 {
     let mut text = Vec::new(alloc);
-    put_judged(alloc, &mut text, scoped, judgment, time)?;
+    put_judged(alloc, &mut text, scoped, judgment, deep.time)?;
     Ok(text)
 }
 
@@ -192,15 +213,15 @@ fn text_of_refusal(
     source: &[u8],
     scoped: &Scoped,
     refusal: &JudgeRefusal,
-    time: u64,
+    deep: TooDeep,
 ) -> Result<Vec<u8>, AllocError>
     requires program { IsProgram source.now (scoped_tree scoped.now) }
     requires known { refusal.now ≢ JudgeRefusal.NoMemory }
     requires refused { IsJudgeRefusal (scoped_tree scoped.now) refusal.now }
-    ensures { IfOk result (λ text. TellsDepth source.now time text.items) }
+    ensures { IfOk result (λ text. TellsDepth source.now deep.limit deep.time text.items) }
 {
     let mut text = Vec::new(alloc);
-    put_unjudged(&mut text, source, refusal)?;
+    put_unjudged(&mut text, source, deep.limit, refusal)?;
     Ok(text)
 }
 
@@ -209,25 +230,25 @@ fn text_of_scoped(
     alloc: Global,
     source: &[u8],
     scoped: &Scoped,
-    time: u64,
+    deep: TooDeep,
 ) -> Result<Vec<u8>, AllocError>
     requires { IsProgram source.now (scoped_tree scoped.now) }
-    ensures { IfOk result (λ text. TellsDepth source.now time text.items) }
+    ensures { IfOk result (λ text. TellsDepth source.now deep.limit deep.time text.items) }
 {
     match judge(alloc, scoped) {
-        Ok(judgment) => text_of_judgment(alloc, source, scoped, &judgment, time),
+        Ok(judgment) => text_of_judgment(alloc, source, scoped, &judgment, deep),
         Err(JudgeRefusal::NoMemory) => Err(AllocError),
-        Err(refusal) => text_of_refusal(alloc, source, scoped, &refusal, time),
+        Err(refusal) => text_of_refusal(alloc, source, scoped, &refusal, deep),
     }
 }
 
-/// What is said of a source whose value at the time is too deep: what `--cycles` says of it, and the depth that is enough for the time, where
-/// one is. Nothing of a source that is refused.
-pub fn explain_depth(alloc: Global, source: &[u8], time: u64) -> Result<Vec<u8>, AllocError>
-    ensures { IfOk result (λ text. TellsDepth source.now time text.items) }
+/// What is said of a source whose value at the time is too deep at the limit: what `--cycles` says of it, and the depth that is enough for the
+/// time, where one is. Nothing of a source that is refused.
+pub fn explain_depth(alloc: Global, source: &[u8], deep: TooDeep) -> Result<Vec<u8>, AllocError>
+    ensures { IfOk result (λ text. TellsDepth source.now deep.limit deep.time text.items) }
 {
     match scoped_of(alloc, source)? {
-        Some(scoped) => text_of_scoped(alloc, source, &scoped, time),
+        Some(scoped) => text_of_scoped(alloc, source, &scoped, deep),
         None => Ok(Vec::new(alloc)),
     }
 }

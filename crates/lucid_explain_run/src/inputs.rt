@@ -1,17 +1,17 @@
 //! What is said of inputs that have no file.
-ghost use Rattle.std.specs.Prelude.{◌≡◌, ◌-◌, ◌+◌, ◌≤◌, ◌∷◌, ◌++◌, ◌↔◌, List, length, find, min, Contains, Some, ℕ, ◌<◌, IfOk, IfSome, IfNone, IsTrue, OnOk};
+ghost use Rattle.std.specs.Prelude.{◌≡◌, ◌-◌, ◌+◌, ◌≤◌, [], ◌∷◌, ◌++◌, ◌↔◌, List, length, find, min, Contains, Some, ℕ, ◌<◌, IfOk, IfSome, IfNone, IsTrue, OnOk};
 ghost use Rattle.std.specs.Option.{option_copied, option_to_list};
 ghost use Rattle.std.specs.List.{slice_get, flat_map};
 ghost use Rattle.lucid_scan.specs.Refusals.{most_source_bytes};
 ghost use Rattle.lucid_scope.specs.Scoped.{scoped_tree, scoped_inputs};
 ghost use Rattle.lucid_explain_source.specs.Accepted.{IsProgram};
 ghost use Rattle.lucid_explain_run.specs.declared.inputs.Lacking.{Lacking as Told};
-ghost use Rattle.lucid_explain_run.specs.Inputs.{StandsAt, StandsFirst, is_alike, is_edited, is_near, nearest, IsLacking, IsWanted, AreFirst, AreLacking, near_text, first_text, lacking_text, word_text, inputs_text, TellsInputs};
+ghost use Rattle.lucid_explain_run.specs.Inputs.{StandsAt, StandsFirst, is_alike, is_edited, is_near, nearest, first_named, IsLacking, IsWanted, AreFirst, AreLacking, near_text, spelled_text, outside_text, elsewhere_text, meant_text, first_text, lacking_text, word_text, inputs_text, TellsInputs, named_text, free_text, TellsFree};
 ghost use Rattle.lucid_explain_source.specs.Definitions.{name_text};
-ghost use Rattle.lucid_explain_source.specs.Scopes.{lent};
+ghost use Rattle.lucid_explain_source.specs.Scopes.{lent, in_scope, all_defs};
 
-use lucid_explain_places::put_where;
-use lucid_explain_source::{find_in_scope, put_definition, put_name, scoped_of};
+use lucid_explain_places::{is_capital, put_where};
+use lucid_explain_source::{find_everywhere, find_in_scope, put_definition, put_name, scoped_of};
 use lucid_scope::{Binding, Scoped};
 use lucid_tree::Def;
 use lucid_value::Name;
@@ -32,6 +32,10 @@ pub struct Lacking<'a> {
     pub at: u32,
     /// A definition in scope there whose name differs by little.
     pub near: Option<&'a Def>,
+    /// A definition of the name, which isn't in scope there.
+    pub elsewhere: Option<&'a Def>,
+    /// Whether it is a reserved word but for capital letters.
+    pub is_capital: bool,
 }
 
 // Whether the name at the place belongs to the input of this number.
@@ -122,6 +126,48 @@ fn find_nearest<'a>(
     }
 }
 
+// The definition in scope at the place whose name is nearest.
+fn near_of<'a>(
+    alloc: Global,
+    scoped: &'a Scoped,
+    name: &[u8],
+    at: u32,
+) -> Result<Option<&'a Def>, AllocError>
+    ensures { IfOk result (λ found. option_copied found ≡ nearest name.now (in_scope at (scoped_tree scoped.entry.now))) }
+{
+    let mut defs = Vec::new(alloc);
+    find_in_scope(&mut defs, scoped.tree(), at)?;
+    let near = find_nearest(alloc, &defs, name)?;
+    Ok(near)
+}
+
+// The first definition of the name.
+#[tactic(auto, using(lucid_explain_source::proofs::Lent::find_more))]
+fn find_named<'a>(defs: &[&'a Def], name: &[u8]) -> Option<&'a Def>
+    ensures { option_copied result ≡ first_named name.now (lent defs.now) }
+{
+    for def in defs {
+        if def.name.bytes() == name {
+            return Some(*def);
+        }
+    }
+    None
+}
+
+// The first definition of the name anywhere in the tree.
+fn elsewhere_of<'a>(
+    alloc: Global,
+    scoped: &'a Scoped,
+    name: &[u8],
+) -> Result<Option<&'a Def>, AllocError>
+    ensures { IfOk result (λ found. option_copied found ≡ first_named name.now (all_defs (scoped_tree scoped.entry.now))) }
+{
+    let mut defs = Vec::new(alloc);
+    find_everywhere(&mut defs, scoped.tree())?;
+    let elsewhere = find_named(&defs, name);
+    Ok(elsewhere)
+}
+
 // The input of this number, which has this name, as one without a file; none where it stands nowhere.
 fn lacking_of<'a>(
     alloc: Global,
@@ -140,10 +186,16 @@ fn lacking_of<'a>(
     let Some(at) = first_place(scoped, stream, end) else {
         return Ok(None);
     };
-    let mut defs = Vec::new(alloc);
-    find_in_scope(&mut defs, scoped.tree(), at)?;
-    let near = find_nearest(alloc, &defs, name.bytes())?;
-    Ok(Some(Lacking { name, at, near }))
+    let near = near_of(alloc, scoped, name.bytes(), at)?;
+    let elsewhere = elsewhere_of(alloc, scoped, name.bytes())?;
+    let is_capital = is_capital(alloc, name.bytes())?;
+    Ok(Some(Lacking {
+        name,
+        at,
+        near,
+        elsewhere,
+        is_capital,
+    }))
 }
 
 // Whether a file is given for the name.
@@ -218,22 +270,84 @@ pub(crate) fn all_lacking<'a>(
     Ok(those)
 }
 
-/// Appends a definition that may be meant.
-pub(crate) fn put_near(
+// Appends a definition whose name is near, or else the other text.
+fn put_near(
     text: &mut Vec<u8>,
     source: &[u8],
+    other: &[u8],
     near: Option<&Def>,
 ) -> Result<(), AllocError>
     requires { length source.now ≤ most_source_bytes }
-    ensures { OnOk result (text.new.items ≡ text.old.items ++ near_text source.now near.entry) }
+    ensures { OnOk result (text.new.items ≡ text.old.items ++ near_text source.now other.now near.entry) }
 {
     match near {
         Some(def) => {
             text.extend_from_slice(b"It may be misspelt: ")?;
             put_definition(text, source, def)
         }
-        None => Ok(()),
+        None => text.extend_from_slice(other),
     }
+}
+
+// Appends how a name is meant that may be misspelt, or else the other text.
+#[tactic(auto, unfolding(crate::specs::Inputs::spelled_text))]
+fn put_spelled(
+    text: &mut Vec<u8>,
+    source: &[u8],
+    other: &[u8],
+    lacking: &Lacking<'_>,
+) -> Result<(), AllocError>
+    requires { length source.now ≤ most_source_bytes }
+    ensures { OnOk result (text.new.items ≡ text.old.items ++ spelled_text source.now other.now lacking.now) }
+{
+    if lacking.is_capital {
+        return text.extend_from_slice(
+            b"It may be misspelt: reserved words have small letters, as `true`.\n",
+        );
+    }
+    put_near(text, source, other, lacking.near)
+}
+
+// Appends a definition that isn't in scope.
+fn put_outside(text: &mut Vec<u8>, source: &[u8], def: &Def) -> Result<(), AllocError>
+    requires { length source.now ≤ most_source_bytes }
+    ensures { OnOk result (text.new.items ≡ text.old.items ++ outside_text source.now def.now) }
+{
+    text.extend_from_slice(
+        b"A definition isn't in scope outside its block, nor in the right side of an `is current`: ",
+    )?;
+    put_definition(text, source, def)
+}
+
+// Appends the definition of the name of an input which isn't in scope, where there is one, or else what may be meant.
+fn put_elsewhere(
+    text: &mut Vec<u8>,
+    source: &[u8],
+    other: &[u8],
+    lacking: &Lacking<'_>,
+    elsewhere: Option<&Def>,
+) -> Result<(), AllocError>
+    requires { length source.now ≤ most_source_bytes }
+    ensures { OnOk result (text.new.items ≡ text.old.items ++ elsewhere_text source.now other.now lacking.now elsewhere.entry) }
+{
+    match elsewhere {
+        Some(def) => put_outside(text, source, def),
+        None => put_spelled(text, source, other, lacking),
+    }
+}
+
+/// Appends what may be meant by the name of an input, or else the other text.
+#[tactic(auto, unfolding(crate::specs::Inputs::meant_text))]
+pub(crate) fn put_meant(
+    text: &mut Vec<u8>,
+    source: &[u8],
+    other: &[u8],
+    lacking: &Lacking<'_>,
+) -> Result<(), AllocError>
+    requires { length source.now ≤ most_source_bytes }
+    ensures { OnOk result (text.new.items ≡ text.old.items ++ meant_text source.now other.now lacking.now) }
+{
+    put_elsewhere(text, source, other, lacking, lacking.elsewhere)
 }
 
 // Appends the name of an input, and where it stands first.
@@ -252,7 +366,7 @@ fn put_lacking(text: &mut Vec<u8>, source: &[u8], lacking: &Lacking<'_>) -> Resu
     ensures { OnOk result (text.new.items ≡ text.old.items ++ lacking_text source.now lacking.now) }
 {
     put_stands(text, source, lacking.name, lacking.at)?;
-    put_near(text, source, lacking.near)
+    put_meant(text, source, b"", lacking)
 }
 
 // Appends the words that give files.
@@ -317,6 +431,50 @@ pub fn explain_inputs(alloc: Global, source: &[u8], given: &[Name]) -> Result<Ve
 {
     match scoped_of(alloc, source)? {
         Some(scoped) => text_of(alloc, source, &scoped, given),
+        None => Ok(Vec::new(alloc)),
+    }
+}
+
+// Appends inputs as those of a program.
+fn put_named(text: &mut Vec<u8>, source: &[u8], those: &[Lacking<'_>]) -> Result<(), AllocError>
+    requires { length source.now ≤ most_source_bytes }
+    ensures { OnOk result (text.new.items ≡ text.old.items ++ named_text source.now those.now) }
+{
+    text.extend_from_slice(b"The inputs of the program:\n")?;
+    put_all(text, source, those)
+}
+
+// Appends the inputs of a program, or that there is none.
+fn put_free(text: &mut Vec<u8>, source: &[u8], those: &[Lacking<'_>]) -> Result<(), AllocError>
+    requires { length source.now ≤ most_source_bytes }
+    ensures { OnOk result (text.new.items ≡ text.old.items ++ free_text source.now those.now) }
+{
+    if those.is_empty() {
+        text.extend_from_slice(b"The program has no input.\n")
+    } else {
+        put_named(text, source, those)
+    }
+}
+
+// What is said of all inputs of a source by what its names belong to.
+fn text_of_free(alloc: Global, source: &[u8], scoped: &Scoped) -> Result<Vec<u8>, AllocError>
+    requires short { length source.now ≤ most_source_bytes }
+    requires program { IsProgram source.now (scoped_tree scoped.now) }
+    requires few { length (scoped_inputs scoped.now) ≤ most_source_bytes }
+    ensures { IfOk result (λ text. TellsFree source.now text.items) }
+{
+    let those = all_lacking(alloc, scoped, source.len() as u32, &[])?;
+    let mut text = Vec::new(alloc);
+    put_free(&mut text, source, &those)?;
+    Ok(text)
+}
+
+/// The inputs of a source, at most six, and where each stands first. Nothing of a source that is refused.
+pub fn explain_free(alloc: Global, source: &[u8]) -> Result<Vec<u8>, AllocError>
+    ensures { IfOk result (λ text. TellsFree source.now text.items) }
+{
+    match scoped_of(alloc, source)? {
+        Some(scoped) => text_of_free(alloc, source, &scoped),
         None => Ok(Vec::new(alloc)),
     }
 }

@@ -2,9 +2,9 @@
 //! a certificate that don't follow, each with its piece of the source.
 #![tactic(auto)]
 
-pub use crate::depth::explain_depth;
+pub use crate::depth::{TooDeep, explain_depth};
 pub use crate::find::part_at;
-pub use crate::inputs::{Lacking, explain_inputs};
+pub use crate::inputs::{Lacking, explain_free, explain_inputs};
 pub use crate::judgment::explain_judgment;
 pub use crate::prompt::explain_prompt;
 

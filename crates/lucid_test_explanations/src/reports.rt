@@ -790,7 +790,7 @@ static RUNS: [Row; 7] = [
         words: "--depth 9 p",
         source: "n whenever n < 0 where n = 0 fby n + 1; end",
         status: Status::TooDeep,
-        report: "too deep at time 0\n`--cycles` says: not judged at 2\nHere is a search: it looks at times below the depth limit alone. If its test isn't true often enough there, there may be no depth that is enough.\nA greater --depth may be enough, up to 1000000.\n",
+        report: "too deep at time 0\n`--cycles` says: not judged at 2\nHere is a search: it looks at times below the depth limit alone. If its test is never true again, no depth is enough: --count asks for the lines that there are. If it is true later:\nA greater --depth may be enough, up to 1000000.\n",
     },
     Row {
         words: "--depth 9 p",
@@ -918,7 +918,7 @@ fn hints_are_given(rt: HostRuntime) -> Result<(), Fail> {
 }
 
 // What is asked, of which source, and how the report begins at a terminal; it is empty where nothing is said.
-static PROMPTS: [(&str, &str, &str); 5] = [
+static PROMPTS: [(&str, &str, &str); 10] = [
     (
         "p",
         "a",
@@ -934,6 +934,23 @@ static PROMPTS: [(&str, &str, &str); 5] = [
         "N where n = 1; end",
         "The input N is read from here, a value on each line.\nIt may be misspelt: n is defined in line 1, column 9.\nread fault\n",
     ),
+    (
+        "p",
+        "f where k is current f; f = k + 1; end",
+        "The input f is read from here, a value on each line.\nA definition isn't in scope outside its block, nor in the right side of an `is current`: f is defined in line 1, column 25.\nread fault\n",
+    ),
+    (
+        "p",
+        "1 whenever True",
+        "The input True is read from here, a value on each line.\nIt may be misspelt: reserved words have small letters, as `true`.\nread fault\n",
+    ),
+    (
+        "p",
+        "n // 2",
+        "The input n is read from here, a value on each line.\nBehind it begins a comment, with `//`: whole division is `div`.\nread fault\n",
+    ),
+    ("p sale=p", "sales * 2", "no input is named sale\n"),
+    ("p a=p a=p", "a + b", "a is given twice\n"),
     ("p", "eod", ""),
     ("--print p", "a", ""),
 ];

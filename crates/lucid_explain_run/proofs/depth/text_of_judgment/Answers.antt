@@ -6,5 +6,5 @@ use Rattle.lucid_explain_run.proofs.depth.text_of_judgment.Goals as goal
 pub returns : goal.returns
 returns c =
     judged c.args.scoped.now c.args.judgment.now c.requires.program c.requires.judged c.requires.enough
-    (c.in_ok-put_judged.ensures ∙ ap (λ (z : List ℕ). z ++ judged_text (scoped_tree c.args.scoped.now) c.args.time c.args.judgment.now)
+    (c.in_ok-put_judged.ensures ∙ ap (λ (z : List ℕ). z ++ judged_text (scoped_tree c.args.scoped.now) c.args.deep.time c.args.judgment.now)
     c.new-text.ensures.items)
