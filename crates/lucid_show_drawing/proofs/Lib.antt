@@ -1,0 +1,11 @@
+pub mod Common
+pub mod Loops
+pub mod Frames
+pub mod Together
+pub mod Order
+pub mod Places
+pub mod Telling
+pub mod Grouped
+pub mod Shown
+pub mod Demanded
+pub mod Used
