@@ -9,7 +9,7 @@ _lucid() {
     local options='--count --depth --policy --age --room --stats --print --columns --cycles --why --check --flat --from-flat --make'
     local current=${COMP_WORDS[COMP_CWORD]} before=${COMP_WORDS[COMP_CWORD - 1]} program='' is_value='' i
     if [[ ${1##*/} == lucid_show ]]; then
-        options='--at --depth --names --cells'
+        options='--at --as --depth --names --cells'
     fi
     COMPREPLY=()
     # bash parts words at `=`
@@ -22,6 +22,9 @@ _lucid() {
         --policy)
             mapfile -t COMPREPLY < <(compgen -W 'keep none age last' -- "$current")
             return ;;
+        --as)
+            mapfile -t COMPREPLY < <(compgen -W 'outline grid svg' -- "$current")
+            return ;;
         --at | --names | --cells | --count | --depth | --age | --room | --columns | --why | --make)
             return ;;
         --check)
@@ -30,7 +33,7 @@ _lucid() {
     # the first word that is no option and no option's value
     for ((i = 1; i < COMP_CWORD; i++)); do
         case ${COMP_WORDS[i]} in
-            --at | --names | --cells | --count | --depth | --policy | --age | --room | --columns | --why | --check | --make)
+            --at | --as | --names | --cells | --count | --depth | --policy | --age | --room | --columns | --why | --check | --make)
                 if [[ ${COMP_WORDS[i + 1]} == '=' ]]; then i=$((i + 2)); else i=$((i + 1)); fi ;;
             -*) ;;
             *)

@@ -16,7 +16,7 @@ FIB_AT_4 = """output at 4 is 3   = f at 4
           g at 0 is 1   (above)
         g at 1 is 1   (above)
 """
-USAGE = "usage: lucid_show [--at T] [--depth N] [--names LIST] [--cells N] PROGRAM [NAME=FILE]...\n"
+USAGE = "usage: lucid_show [--at T] [--as outline|grid|svg] [--depth N] [--names LIST] [--cells N] PROGRAM [NAME=FILE]...\n"
 
 
 @case
@@ -24,7 +24,7 @@ def a_demand_is_shown(run):
     run.source(FIB)
     run.showing().lucid("p").must(FIB_AT_4)
     run.showing().lucid("--at", "0", "p").must("output at 0 is 0   = f at 0\n  f at 0 is 0   = 0\n")
-    run.showing().lucid("p", "--at=1").must("output at 1 is 1   = f at 1\n  f at 1 is 1   = g at 0\n    g at 0 is 1   = 1\n")
+    run.showing().lucid("p", "--at=1", "--as=outline").must("output at 1 is 1   = f at 1\n  f at 1 is 1   = g at 0\n    g at 0 is 1   = 1\n")
 
 
 @case
@@ -210,7 +210,7 @@ def refusals_are_those_of_the_command(run):
     for words, status in ((["deep"], 5), (["missing"], 3), (["deep", "y=f"], 2)):
         told = run.lucid("--why", "4", *words).must("", status)
         run.showing().lucid(*words).must("", status, told.report.decode())
-    for words in ([], ["--names", "x,", "deep"], ["--at", "x", "deep"], ["deep", "deep"], ["--count", "3", "deep"]):
+    for words in ([], ["--names", "x,", "deep"], ["--as", "other", "deep"], ["--at", "x", "deep"], ["deep", "deep"], ["--count", "3", "deep"]):
         run.showing().lucid(*words).must("", 2, USAGE)
 
 

@@ -10,6 +10,7 @@ use Rattle.lucid_words.specs.Asked.{PlainWords, where_taken}
 use Rattle.lucid_top.specs.declared.task.Task.{Task}
 use Rattle.lucid_top.specs.declared.task.Task.TheVariants.{Why}
 use Rattle.lucid_top.specs.Tasks.{task_of}
+use Rattle.lucid_show_command.specs.declared.form.Form.{Form}
 use Rattle.lucid_show_command.specs.Words.{asked, for_certificate, is_why, of_words, show_command, words_shown}
 
 -- words that ask for a certificate, and others
@@ -24,16 +25,20 @@ unfolding is_why
 why_is Why is = refl
 why_is _ is = cc
 
--- what is asked for, where there are words for a certificate and names
-pub of_both : (asked : Option PlainWords) (names : Option (List Text)) (w : PlainWords) (ns : List Text) → asked ≡ Some w → names ≡ Some ns
-    → of_words asked names ≡ Some (record { words = w; names = ns })
-of_both asked names w ns is are = (λ j. of_words (is j) (are j))
+-- what is asked for, where there are words for a certificate, names and a form
+module _ (asked : Option PlainWords) (names : Option (List Text)) (form : Option Form) where
+  pub of_all : (w : PlainWords) (ns : List Text) (f : Form) → asked ≡ Some w → names ≡ Some ns → form ≡ Some f
+      → of_words asked names form ≡ Some (record { words = w; names = ns; form = f })
+  of_all w ns f is are in_it = λ j. of_words (is j) (are j) (in_it j)
 
-pub of_no_words : (asked : Option PlainWords) (names : Option (List Text)) → asked ≡ None → of_words asked names ≡ None
-of_no_words asked names is = ap (λ (o : Option PlainWords). of_words o names) is
+  pub of_no_words : asked ≡ None → of_words asked names form ≡ None
+  of_no_words is = ap (λ (o : Option PlainWords). of_words o names form) is
 
-pub of_no_names : (asked : Option PlainWords) (names : Option (List Text)) (w : PlainWords) → asked ≡ Some w → names ≡ None → of_words asked names ≡ None
-of_no_names asked names w is are = (λ j. of_words (is j) (are j))
+  pub of_no_names : (w : PlainWords) → asked ≡ Some w → names ≡ None → of_words asked names form ≡ None
+  of_no_names w is are = λ j. of_words (is j) (are j) form
+
+  pub of_no_form : (w : PlainWords) (ns : List Text) → asked ≡ Some w → names ≡ Some ns → form ≡ None → of_words asked names form ≡ None
+  of_no_form w ns is are none = λ j. of_words (is j) (are j) (none j)
 
 -- the command is one of which `clap` says what it takes
 is_simple_one : is_simple show_command ≡ true

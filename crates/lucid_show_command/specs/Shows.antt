@@ -1,5 +1,5 @@
--- What is shown of a program: the outline of a certificate of its value at the time that is asked for.
-use Rattle.std.specs.Prelude.{◌≡◌, ◌⊎◌, ℕ, List, [], codes, Option, Some, None, Ok, Err}
+-- What is shown of a program: a certificate of its value at the time that is asked for.
+use Rattle.std.specs.Prelude.{◌≡◌, ◌⊎◌, ℕ, ◌-◌, List, [], length, codes, Option, Some, None, Ok, Err}
 use Rattle.lucid_tree.specs.Tree.{PlainTree}
 use Rattle.lucid_ports.specs.World.{World}
 use Rattle.lucid_ports.specs.Faults.{Rises}
@@ -23,8 +23,14 @@ use Rattle.lucid_top.specs.Coming.{Does}
 use Rattle.lucid_top.specs.Judged.{HasInputs}
 use Rattle.lucid_top.specs.Places.{IsAccepted}
 use Rattle.lucid_top.specs.Writing.{WritesOnly}
-use Rattle.lucid_show_outline.specs.Views.{view}
+use Rattle.lucid_show_outline.specs.Views.{View, view}
 use Rattle.lucid_show_outline.specs.Lines.{IsOutline}
+use Rattle.lucid_show_grid.specs.Grids.{PlainGrid}
+use Rattle.lucid_show_grid.specs.Text.{grid_text}
+use Rattle.lucid_show_grid.specs.Picture.{picture_text}
+use Rattle.lucid_show_drawing.specs.Drawings.{IsGridOf}
+use Rattle.lucid_show_command.specs.declared.form.Form.{Form}
+use Rattle.lucid_show_command.specs.declared.form.Form.TheVariants as form
 use Rattle.lucid_show_command.specs.Words.{PlainWanted}
 
 -- an output in memory that has these bytes, with so many faults and late calls
@@ -41,10 +47,20 @@ pub record MakesInMemory (words : PlainWords) (before after : World) (bytes : Li
   pub late : ℕ
   pub does : (policy : PolicyView) → Does (call_in_memory policy words before after bytes faults late) o
 
--- The text is the outline, of the names that are wanted and of at most so many lines, of the certificate with these bytes, by the table of a tree with
--- these inputs.
+-- The text shows a grid of the last judgment, by a way to draw grids.
+abbrev pub IsOfGrid : (PlainGrid → List ℕ) → View → (most : ℕ) → (text : List ℕ) → Type 0
+IsOfGrid drawn v most text = (g : PlainGrid) × IsGridOf v most (length v.judgments - 1) g × (text ≡ drawn g)
+
+-- The text shows the last judgment in a form, with so many lines or values at most.
+abbrev pub IsDrawing : Form → View → (most : ℕ) → (text : List ℕ) → Type 0
+IsDrawing form.Outline v most text = IsOutline v most text
+IsDrawing form.Grid v most text = IsOfGrid grid_text v most text
+IsDrawing form.Svg v most text = IsOfGrid picture_text v most text
+
+-- The text shows the certificate with these bytes as it is wanted, by the table of a tree with these inputs.
 abbrev pub Draws : PlainTree → (inputs : List (List ℕ)) → (certificate : List ℕ) → (wanted : PlainWanted) → (text : List ℕ) → Type 0
-Draws e inputs certificate wanted text = (w : Why) × IsTextOf certificate w × IsOutline (view (table_of e inputs) e w wanted.names) wanted.words.count text
+Draws e inputs certificate wanted text =
+    (w : Why) × IsTextOf certificate w × IsDrawing wanted.form (view (table_of e inputs) e w wanted.names) wanted.words.count text
 
 -- It is that of the tree that the words' source is accepted as.
 pub record DrawsSource (wanted : PlainWanted) (before : World) (certificate : List ℕ) (text : List ℕ) : Type 0 where
@@ -55,7 +71,7 @@ pub record DrawsSource (wanted : PlainWanted) (before : World) (certificate : Li
   pub draws : Draws tree inputs certificate wanted text
 
 -- What comes of words that are read. A certificate is made as `lucid` makes it. Where none is, nothing is written, and the outcome is that of the
--- making. Else the outline of the certificate is written; where a write failed, a front of it.
+-- making. Else what shows the certificate is written; where a write failed, a front of it.
 pub record Shown (wanted : PlainWanted) (before after : World) (out_before out_after : Told) (o : Outcome) : Type 0 where
   pub made : Outcome
   pub certificate : List ℕ
@@ -64,7 +80,7 @@ pub record Shown (wanted : PlainWanted) (before after : World) (out_before out_a
   pub shows : (done : Done) → made ≡ Ok done → WritesOnly (DrawsSource wanted before certificate) out_before out_after o
 
 abbrev pub usage_text : List ℕ
-usage_text = codes "usage: lucid_show [--at T] [--depth N] [--names LIST] [--cells N] PROGRAM [NAME=FILE]...\n"
+usage_text = codes "usage: lucid_show [--at T] [--as outline|grid|svg] [--depth N] [--names LIST] [--cells N] PROGRAM [NAME=FILE]...\n"
 
 -- The usage of this command is told: by its status and its line; or by its status and a front of the line, where a write of the report failed; or
 -- there was no memory to write the line.

@@ -16,7 +16,7 @@ use lucid_words::WordsRefusal;
 use std::alloc::Global;
 
 const USAGE: &[u8] =
-    b"usage: lucid_show [--at T] [--depth N] [--names LIST] [--cells N] PROGRAM [NAME=FILE]...\n";
+    b"usage: lucid_show [--at T] [--as outline|grid|svg] [--depth N] [--names LIST] [--cells N] PROGRAM [NAME=FILE]...\n";
 
 // Reports that the words are refused. A fault of the report doesn't change the status.
 fn tell_usage<E: Sink>(report: &mut E) -> Status

@@ -4,6 +4,7 @@
 pub use crate::command::{lucid_show, lucid_show_from_arguments};
 
 mod command;
+mod form;
 mod help;
 pub mod laws;
 mod showing;

@@ -6,18 +6,33 @@ ghost use Rattle.lucid_compile.specs.Settled.{table_of as tree_table};
 ghost use Rattle.lucid_ports.specs.Told.{told};
 ghost use Rattle.lucid_top.specs.Coming.{MayBegin};
 ghost use Rattle.lucid_top.specs.declared.task.Task.{Task};
-ghost use Rattle.lucid_show_command.specs.Shows.{Draws, Shown};
+ghost use Rattle.lucid_show_command.specs.Shows.{Draws, IsDrawing, Shown};
 ghost use Rattle.lucid_show_command.specs.Words.{plain_wanted};
+ghost use Rattle.lucid_show_outline.specs.Views.{view_of};
 
+use crate::form::Form;
 use crate::words::Wanted;
 use lucid_cert_rules::read_why;
 use lucid_ports::{MemorySink, Places, Sink};
 use lucid_report::{Done, Stop};
+use lucid_show_drawing::grid;
+use lucid_show_grid::{grid_text, picture_text};
 use lucid_show_outline::{Source, outline_text};
 use lucid_top::{Certified, make_why, write_out};
 use std::alloc::{AllocError, Global};
 
-// The outline of the certificate that these bytes are the text of, as it is wanted. There are no bytes but those that were written of a
+// The text that shows the last judgment in a form, with so many lines or values at most.
+fn drawing(source: &Source<'_>, form: Form, most: u32) -> Result<Vec<u8>, AllocError>
+    ensures { IfOk result (λ text. IsDrawing form (view_of source.now) most text.items) }
+{
+    match form {
+        Form::Outline => outline_text(source, most),
+        Form::Grid => grid_text(source.alloc(), &grid(source, most)?),
+        Form::Svg => picture_text(source.alloc(), &grid(source, most)?),
+    }
+}
+
+// The text that shows the certificate that these bytes are the text of, as it is wanted. There are no bytes but those that were written of a
 // certificate, so that they aren't read is for want of memory alone.
 fn text_of(
     alloc: Global,
@@ -38,11 +53,11 @@ fn text_of(
         &why,
         &wanted.names,
     )?;
-    outline_text(&source, wanted.words.options.count)
+    drawing(&source, wanted.form, wanted.words.options.count)
 }
 
 /// Shows what the value of the program that the words name was computed from, at the time that they ask for: of the names that are wanted, and
-/// as many lines as the count at most. It makes a certificate in memory and writes what it draws of that.
+/// as much as the count at most. It makes a certificate in memory and writes what it draws of that.
 pub(crate) fn show<P: Places, K: Sink>(
     alloc: Global,
     wanted: &Wanted,

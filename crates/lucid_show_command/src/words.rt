@@ -9,6 +9,7 @@ ghost use Rattle.lucid_ports.specs.World.{World};
 ghost use Rattle.lucid_top.specs.Coming.{MayBegin};
 ghost use Rattle.lucid_show_command.specs.Words.{show_rules, show_command, depth_words, text_or, words_for, is_why, certificate_asked, list_words, names_in, names_asked, of_program, of_given, words_shown, asked, plain_wanted};
 
+use crate::form::{Form, form_asked};
 use clap::error::ErrorKind;
 use clap::{Arg, ArgAction, ArgMatches, Command};
 use lucid_top::Task;
@@ -16,11 +17,13 @@ use lucid_value::Name;
 use lucid_words::{Words, WordsRefusal, read_words};
 use std::alloc::{AllocError, Global};
 
-/// What is asked for: words of `lucid` that make a certificate, and the names whose values are told, which are all where there are none.
+/// What is asked for: words of `lucid` that make a certificate, the names whose values are told, which are all where there are none, and the
+/// form in which they are.
 #[derive(Drop)]
 pub struct Wanted {
     pub words: Words,
     pub names: Vec<Name>,
+    pub form: Form,
 }
 
 // An option with any text as its value. Its id is its name.
@@ -37,6 +40,7 @@ fn with_options<'a>(alloc: Global, command: Command<'a>) -> Result<Command<'a>, 
 {
     command
         .arg(text_option(alloc, "at"))?
+        .arg(text_option(alloc, "as"))?
         .arg(text_option(alloc, "depth"))?
         .arg(text_option(alloc, "names"))?
         .arg(text_option(alloc, "cells"))
@@ -228,7 +232,10 @@ fn wanted_of(alloc: Global, matches: &ArgMatches<'_>, program: &str) -> Result<W
 {
     let words = read_program(alloc, matches, program)?;
     let names = names_asked(alloc, text_of(matches, "names"), program)?;
-    Ok(Wanted { words, names })
+    let Some(form) = form_asked(text_of(matches, "as")) else {
+        return Err(WordsRefusal::Usage);
+    };
+    Ok(Wanted { words, names, form })
 }
 
 // The same of a program that may not be given.
@@ -265,7 +272,7 @@ fn refusal_of(error: &clap::Error) -> WordsRefusal
     }
 }
 
-/// Reads the words that follow the program's own name. The count of the words that make the certificate is the most lines that are shown.
+/// Reads the words that follow the program's own name. The count of the words that make the certificate is how much is shown at most.
 pub(crate) fn read_asked(alloc: Global, words: &[String]) -> Result<Wanted, WordsRefusal>
     ensures asked { Answers plain_wanted (asked (map string_bytes words.now)) result }
     ensures begins { IfOk result (λ wanted. (v : World) → v.reached ≡ 0 → MayBegin wanted.words Task.Why v) }

@@ -1,8 +1,7 @@
 use Rattle.lucid_show_command.proofs.Common.{◌∙◌, subst, IfOk-weaker}
 use Rattle.lucid_scope.specs.Scoped.{scoped_tree, scoped_inputs}
 use Rattle.lucid_show_outline.specs.Views.{View, view}
-use Rattle.lucid_show_outline.specs.Lines.{IsOutline}
-use Rattle.lucid_show_command.specs.Shows.{Draws}
+use Rattle.lucid_show_command.specs.Shows.{Draws, IsDrawing}
 use Rattle.lucid_show_command.specs.Words.{plain_wanted}
 use Rattle.lucid_show_command.proofs.showing.text_of.Goals as goal
 
@@ -11,10 +10,10 @@ returns c =
     let s = c.args.certified.now.scoped in
     let why = c.in-Ok.why in
     let w = plain_wanted c.args.wanted.now in
-    IfOk-weaker c.outline_text.result _ (λ text. Draws (scoped_tree s) (scoped_inputs s) c.args.certificate.now w text.items)
+    IfOk-weaker c.drawing.result _ (λ text. Draws (scoped_tree s) (scoped_inputs s) c.args.certificate.now w text.items)
     (λ text is. (
       why,
       c.in-Ok.ensures.text,
-      subst (λ (v : View). IsOutline v w.words.count text.items)
+      subst (λ (v : View). IsDrawing w.form v w.words.count text.items)
           (c.in_ok-source.ensures ∙ (λ j. view ((c.table.ensures.value ∙ c.requires) j) (c.tree.ensures.value j) why (c.deref.ensures.value j))) is,
-    )) c.outline_text.ensures
+    )) c.drawing.ensures
