@@ -12,7 +12,8 @@ A fence is what its first line says, in a form that pandoc reads too:
   ```{.shown words="WORDS"}      what `lucid_show` writes of the program above it with these words
   ```{.antt file=FILE}           the file of definitions, whole but for its first comment and the lines that import names
 
-The first lines `lucid WORDS`, `output N`, `input NAME` and `antt FILE` are read as well, though not by pandoc. All other fences are
+A picture, as `![a search](pictures/search.svg)`, is what `lucid_show` draws of the program above it with the words of the call above it;
+tools/pictures draws it again. The first lines `lucid WORDS`, `output N`, `input NAME` and `antt FILE` are read as well, though not by pandoc. All other fences are
 text. Where the line above a program has a call in code, as `lucid --count=3 program.lucid`, the call's words are the program's.
 Where it has a link to a file of examples/, the program is that file's, but for the comment that the file begins with.
 
@@ -103,6 +104,43 @@ def call_above(line, command=r"lucid(_explain)?"):
     """The words of the last call in a line, without the command, the program's file and where the output goes, or none."""
     calls = [shlex.split(it.split(" > ")[0]) for it in spans(line) if re.match(f"{command} ", it) and "|" not in it]
     return [it for it in calls[-1][1:] if it != "program.lucid"] if calls else None
+
+
+class Picture:
+    """A picture of a page: its file below docs/, the program that is drawn, the words of the call, and its line."""
+
+    def __init__(self, file, program, words, at):
+        self.file, self.program, self.words, self.at = file, program, words, at
+
+    def drawn(self, run):
+        """What the command draws."""
+        for name, text in self.program.inputs.items():
+            run.write(name, text)
+        run.source(self.program.source, "program.lucid")
+        return run.showing().lucid("program.lucid", *self.words, given=self.program.inputs.get("-", "")).must().out
+
+
+def pictures(page):
+    """The pictures of a page, in order."""
+    found, above, inside = [], "", False
+    for number, line in enumerate(page.splitlines(), 1):
+        inside ^= line.startswith("```")
+        file = re.fullmatch(r"!\[.+\]\((pictures/\w+\.svg)\)", line)
+        if file and not inside:
+            before, words = [it for it in programs(page) if it.at < number], call_above(above, "lucid_show")
+            check(before and words, f"line {number}: no program and no call of lucid_show stand above the picture")
+            found.append(Picture(file[1], before[-1], words, number))
+        above = line.strip() or above
+    return found
+
+
+def is_drawn(name, picture):
+    """The case that a picture is what the command draws."""
+    def work(run):
+        drawn = picture.drawn(run)
+        with open(os.path.join(run.top, "docs", picture.file), "rb") as it:
+            check(it.read() == drawn, f"line {picture.at}: the command draws another picture: tools/pictures writes it")
+    return Case(f"{name} line {picture.at}, a picture", work)
 
 
 def is_example(run, it):
@@ -270,7 +308,8 @@ def in_page(top, name):
         page = it.read()
     try:
         quotes = [quoted(name, it) for it in fences(page) if it.kind == "antt"]
-        return [one(name, it) for it in programs(page)] + quotes + rows(name, page) + [by_pandoc(name, page)]
+        drawn = [is_drawn(name, it) for it in pictures(page)]
+        return [one(name, it) for it in programs(page)] + quotes + drawn + rows(name, page) + [by_pandoc(name, page)]
     except Failed as trouble:
         def work(_, trouble=trouble):
             raise trouble
