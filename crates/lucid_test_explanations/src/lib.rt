@@ -4,6 +4,8 @@
 #[cfg(test)]
 mod call;
 #[cfg(test)]
+mod errors;
+#[cfg(test)]
 mod hostile;
 #[cfg(test)]
 mod reports;

@@ -1,0 +1,5 @@
+pub mod Lasts
+pub mod Parts
+pub mod Signs
+pub mod Telling
+pub mod Walking

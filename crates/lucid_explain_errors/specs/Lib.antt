@@ -1,0 +1,10 @@
+pub mod Traced
+pub mod Wanted
+pub mod Causes
+pub mod Ways
+pub mod Texts
+pub mod Inputs
+pub mod Steps
+pub mod Ending
+pub mod Errors
+pub mod Laws
