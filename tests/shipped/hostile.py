@@ -69,7 +69,7 @@ def a_long_word(run):
     # a word of 200 bytes, one of which isn't printable
     report = explained(run, "1", "--\x1b" + "x" * 197).must("", 2).report.decode()
     said = "This word doesn't go with those before it: --?" + "x" * 157 + "\nThe line above has the options, each of which is given once at most; "
-    said += "of --print, --columns, --cycles, --why, --check, --flat and --from-flat one alone is given.\n"
+    said += "of --print, --columns, --cycles, --why, --check, --flat and --from-flat one alone is given. --columns has names with commas between them, as n,m, and --why a time.\n"
     check(report.endswith(said), shown(report))
 
 

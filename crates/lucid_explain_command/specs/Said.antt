@@ -11,7 +11,7 @@ use Rattle.lucid_words.specs.Asked.{PlainWords, words_asked}
 use Rattle.lucid_explain_source.specs.Accepted.{IsAccepted}
 use Rattle.lucid_explain_places.specs.Shown.{place_text, shown_byte}
 use Rattle.lucid_explain_source.specs.Sources.{Explains}
-use Rattle.lucid_explain_run.specs.Inputs.{TellsInputs}
+use Rattle.lucid_explain_run.specs.Inputs.{TellsInputs, TellsFree}
 use Rattle.lucid_explain_source.specs.Columns.{TellsColumns}
 use Rattle.lucid_explain_run.specs.Depths.{TellsDepth}
 use Rattle.lucid_explain_run.specs.Judgments.{TellsJudgment}
@@ -61,6 +61,7 @@ columns_cause line = if begins line (codes "no column ") then cause.Columns else
 abbrev pub plain_cause : (source line : List ℕ) → Cause
 plain_cause source line =
     if begins line (codes "no input for two names") then cause.Inputs
+    else if begins line (codes "no input is named ") then cause.Free
     else if begins line (codes "not judged at ") then place_cause source (number_behind line (codes "not judged at "))
     else depth_cause (number_behind line (codes "too deep at time "))
 
@@ -72,10 +73,11 @@ abbrev pub IsWithin : (source : List ℕ) → Cause → Type 0
 IsWithin source (cause.Place at) = (at ≤ length source) × (length source ≤ 1048576)
 IsWithin source other = Unit {0}
 
--- The text says that of the source of this name: its inputs without a file; the names that may be columns; a place; what `--cycles` says of it, and what
--- that means for a time; or nothing. Behind a place and a depth, and alone, stands what explains the line by itself.
+-- The text says that of the source of this name: its inputs without a file; all its inputs; the names that may be columns; a place; what `--cycles` says
+-- of it, and what that means for a time; or nothing. Before all inputs, behind a place and a depth, and alone, stands what explains the line by itself.
 abbrev pub TellsBy : Cause → (asked : PlainWords) → (name source line text : List ℕ) → Type 0
 TellsBy cause.Inputs asked name source line text = TellsInputs source (names_given asked.given) text
+TellsBy cause.Free asked name source line text = (said : List ℕ) × TellsFree source said × (text ≡ line_text line ++ said)
 TellsBy cause.Columns asked name source line text = TellsColumns source text
 TellsBy (cause.Place at) asked name source line text = text ≡ place_text name source at ++ line_text line
 TellsBy (cause.Depth time) asked name source line text = (said : List ℕ) × TellsDepth source time said × (text ≡ said ++ line_text line)
@@ -145,7 +147,7 @@ abbrev pub source_lines : List (List ℕ)
 source_lines =
     codes "bad byte at " ∷ codes "open text at " ∷ codes "number too big at " ∷ codes "source too long" ∷ codes "syntax at " ∷ codes "too nested at "
     ∷ codes "defined twice at " ∷ codes "no such function at " ∷ codes "not a function at " ∷ codes "function without arguments at "
-    ∷ codes "wrong number of arguments at " ∷ codes "no column " ∷ codes "no input for two names" ∷ codes "not judged at " ∷ codes "too deep at " ∷ []
+    ∷ codes "wrong number of arguments at " ∷ codes "no column " ∷ codes "no input for two names" ∷ codes "no input is named " ∷ codes "not judged at " ∷ codes "too deep at " ∷ []
 
 abbrev pub is_of_source : (line : List ℕ) → Bool
 is_of_source line = list_any (begins line) source_lines
@@ -224,12 +226,17 @@ abbrev pub is_number_option : (option : List ℕ) → Bool
 is_number_option option =
     same_bytes option (codes "--count") || same_bytes option (codes "--depth") || same_bytes option (codes "--age") || same_bytes option (codes "--room")
 
+-- with these bytes the dashes begin that stand for two minus signs in typeset text
+abbrev pub dash_bytes : List ℕ
+dash_bytes = 226 ∷ 128 ∷ []
+
 abbrev pub word_advice : (word : Text) → List ℕ
 word_advice word =
-    if is_number_option (option_of word) then codes "This option has a number from 1 to 1,000,000, and is given once at most.\n"
+    if is_number_option (option_of word) then codes "This option has a number from 1 to 1000000, in digits alone, and is given once at most.\n"
     else if same_bytes (option_of word) (codes "--policy") then codes "The policies are keep, none, age and last, and the option is given once at most.\n"
-    else if begins word (codes "-") then codes "The line above has the options, each of which is given once at most; of --print, --columns, --cycles, --why, --check, --flat and --from-flat one alone is given.\n"
-    else codes "What an option wants stands behind it: of --count, --depth, --age and --room a number from 1 to 1,000,000. Then comes the program's file, and then NAME=FILE for each input that has a file.\n"
+    else if begins word (codes "-") then codes "The line above has the options, each of which is given once at most; of --print, --columns, --cycles, --why, --check, --flat and --from-flat one alone is given. --columns has names with commas between them, as n,m, and --why a time.\n"
+    else if begins word dash_bytes then codes "An option begins with two plain minus signs, as --count.\n"
+    else codes "What an option wants stands behind it: of --count, --depth, --age and --room a number from 1 to 1000000, of --columns names as n,m, of --why a time. Then comes the program's file, and then NAME=FILE for each input that has a file.\n"
 
 abbrev pub wrong_text : (word : Text) → List ℕ
 wrong_text word = codes "This word doesn't go with those before it: " ++ (shown_text word ++ (codes "\n" ++ word_advice word))

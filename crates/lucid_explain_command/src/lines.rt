@@ -120,7 +120,7 @@ pub fn line_text(line: &[u8]) -> &'static [u8]
 }
 
 // How the lines begin that are explained by the source.
-const OF_SOURCE: [&[u8]; 15] = [
+const OF_SOURCE: [&[u8]; 16] = [
     b"bad byte at ",
     b"open text at ",
     b"number too big at ",
@@ -134,6 +134,7 @@ const OF_SOURCE: [&[u8]; 15] = [
     b"wrong number of arguments at ",
     b"no column ",
     b"no input for two names",
+    b"no input is named ",
     b"not judged at ",
     b"too deep at ",
 ];

@@ -7,14 +7,14 @@ ghost use Rattle.lucid_words.specs.Plain.{plain_given};
 ghost use Rattle.lucid_explain_source.specs.Accepted.{IsAccepted};
 ghost use Rattle.lucid_explain_places.specs.Shown.{place_text};
 ghost use Rattle.lucid_explain_source.specs.Sources.{Explains};
-ghost use Rattle.lucid_explain_run.specs.Inputs.{TellsInputs};
+ghost use Rattle.lucid_explain_run.specs.Inputs.{TellsInputs, TellsFree};
 ghost use Rattle.lucid_explain_run.specs.Depths.{TellsDepth};
 ghost use Rattle.lucid_explain_command.specs.Lines.{line_text};
 ghost use Rattle.lucid_explain_command.specs.Said.{names_given, digits_front, number_behind, place_within, place_cause, depth_cause, columns_cause, plain_cause, cause_of, IsWithin, TellsBy, Tells};
 
 use crate::lines::{begins, line_text};
 use lucid_explain_places::put_place;
-use lucid_explain_run::{explain_depth, explain_inputs};
+use lucid_explain_run::{explain_depth, explain_free, explain_inputs};
 use lucid_explain_source::{Explanation, explain_columns, explain_source};
 use lucid_texts::number;
 use lucid_value::Name;
@@ -26,6 +26,8 @@ use std::alloc::{AllocError, Global};
 pub(crate) enum Cause {
     /// Its inputs without a file.
     Inputs,
+    /// All its inputs.
+    Free,
     /// The names that may be columns.
     Columns,
     /// A place.
@@ -136,6 +138,8 @@ fn plain_cause(source: &[u8], line: &[u8]) -> Cause
 {
     if begins(line, b"no input for two names") {
         Cause::Inputs
+    } else if begins(line, b"no input is named ") {
+        Cause::Free
     } else if begins(line, b"not judged at ") {
         place_cause(source, number_behind(line, b"not judged at "))
     } else {
@@ -161,6 +165,16 @@ fn text_of_inputs(alloc: Global, asked: &Words, source: &[u8]) -> Result<Vec<u8>
 {
     let given = given_names(alloc, &asked.given)?;
     explain_inputs(alloc, source, &given)
+}
+
+// What is said of a file for a name that is no input.
+fn text_of_free(alloc: Global, source: &[u8], line: &[u8]) -> Result<Vec<u8>, AllocError>
+    ensures { IfOk result (λ text. (said : List ℕ) × TellsFree source.now said × (text.items ≡ line_text line.now ++ said)) }
+{
+    let said = explain_free(alloc, source)?;
+    let mut text = Vec::from_slice(alloc, line_text(line))?;
+    text.extend_from_slice(&said)?;
+    Ok(text)
 }
 
 // What is said of a place at which a source isn't judged.
@@ -202,6 +216,7 @@ fn text_by(
 {
     match cause_of(asked, source, line) {
         Cause::Inputs => text_of_inputs(alloc, asked, source),
+        Cause::Free => text_of_free(alloc, source, line),
         Cause::Columns => explain_columns(alloc, source),
         Cause::Place(at) => text_of_place(alloc, name, source, at, line),
         Cause::Depth(time) => text_of_time(alloc, source, time, line),

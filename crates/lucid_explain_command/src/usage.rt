@@ -91,7 +91,7 @@ fn option_of(word: &[u8]) -> &[u8]
     &word[..len_of_option(word)]
 }
 
-// Whether this is an option with a number from 1 to 1,000,000.
+// Whether this is an option with a number from 1 to 1000000.
 fn is_number_option(option: &[u8]) -> bool
     ensures { result ≡ is_number_option option.now }
 {
@@ -107,13 +107,15 @@ fn word_advice(word: &[u8]) -> &'static [u8]
 {
     let option = option_of(word);
     if is_number_option(option) {
-        b"This option has a number from 1 to 1,000,000, and is given once at most.\n"
+        b"This option has a number from 1 to 1000000, in digits alone, and is given once at most.\n"
     } else if option == b"--policy".as_slice() {
         b"The policies are keep, none, age and last, and the option is given once at most.\n"
     } else if begins(word, b"-") {
-        b"The line above has the options, each of which is given once at most; of --print, --columns, --cycles, --why, --check, --flat and --from-flat one alone is given.\n"
+        b"The line above has the options, each of which is given once at most; of --print, --columns, --cycles, --why, --check, --flat and --from-flat one alone is given. --columns has names with commas between them, as n,m, and --why a time.\n"
+    } else if begins(word, b"\xe2\x80") {
+        b"An option begins with two plain minus signs, as --count.\n"
     } else {
-        b"What an option wants stands behind it: of --count, --depth, --age and --room a number from 1 to 1,000,000. Then comes the program's file, and then NAME=FILE for each input that has a file.\n"
+        b"What an option wants stands behind it: of --count, --depth, --age and --room a number from 1 to 1000000, of --columns names as n,m, of --why a time. Then comes the program's file, and then NAME=FILE for each input that has a file.\n"
     }
 }
 

@@ -669,7 +669,7 @@ static NAMES: [Row; 10] = [
 ];
 
 // Inputs and columns.
-static INPUTS: [Row; 6] = [
+static INPUTS: [Row; 8] = [
     Row {
         words: "p",
         source: "a + b",
@@ -686,7 +686,19 @@ static INPUTS: [Row; 6] = [
         words: "p b=p",
         source: "a",
         status: Status::Usage,
-        report: "no input is named b\nA word gives a file for this name, but in the program it isn't free: leave the word out, or mend the name.\n",
+        report: "no input is named b\nA word gives a file for this name, but in the program it isn't free: leave the word out, or mend the name.\nThe inputs of the program:\na stands first in line 1, column 1.\n",
+    },
+    Row {
+        words: "p n=p",
+        source: "n where n = 1; end",
+        status: Status::Usage,
+        report: "no input is named n\nA word gives a file for this name, but in the program it isn't free: leave the word out, or mend the name.\nThe program has no input.\n",
+    },
+    Row {
+        words: "p",
+        source: "if x then y else z where x = True; end fi",
+        status: Status::Refused,
+        report: "no input for two names\nA name that nothing defines is an input. One of them may be read from the standard input; give each other a file: x=FILE y=FILE z=FILE True=FILE\nx stands first in line 1, column 4.\nA definition isn't in scope outside its block, nor in the right side of an `is current`: x is defined in line 1, column 26.\ny stands first in line 1, column 11.\nz stands first in line 1, column 18.\nTrue stands first in line 1, column 30.\nIt may be misspelt: reserved words have small letters, as `true`.\nIf a word is meant, it stands between two \", as in \"red\".\n",
     },
     Row {
         words: "p a=p a=p",
@@ -709,24 +721,24 @@ static INPUTS: [Row; 6] = [
 ];
 
 // Words that are refused.
-static WORDS: [Row; 7] = [
+static WORDS: [Row; 8] = [
     Row {
         words: "p --print --cycles",
         source: "1",
         status: Status::Usage,
-        report: "usage: lucid [--count N] [--depth N] [--policy keep|none|age|last] [--age K] [--room N] [--stats] [--print] [--columns LIST] [--cycles] [--why T] [--check FILE] [--flat] [--from-flat] PROGRAM [NAME=FILE]... | lucid --make N\nThis word doesn't go with those before it: --cycles\nThe line above has the options, each of which is given once at most; of --print, --columns, --cycles, --why, --check, --flat and --from-flat one alone is given.\n",
+        report: "usage: lucid [--count N] [--depth N] [--policy keep|none|age|last] [--age K] [--room N] [--stats] [--print] [--columns LIST] [--cycles] [--why T] [--check FILE] [--flat] [--from-flat] PROGRAM [NAME=FILE]... | lucid --make N\nThis word doesn't go with those before it: --cycles\nThe line above has the options, each of which is given once at most; of --print, --columns, --cycles, --why, --check, --flat and --from-flat one alone is given. --columns has names with commas between them, as n,m, and --why a time.\n",
     },
     Row {
         words: "--count 0 p",
         source: "1",
         status: Status::Usage,
-        report: "usage: lucid [--count N] [--depth N] [--policy keep|none|age|last] [--age K] [--room N] [--stats] [--print] [--columns LIST] [--cycles] [--why T] [--check FILE] [--flat] [--from-flat] PROGRAM [NAME=FILE]... | lucid --make N\nThis word doesn't go with those before it: 0\nWhat an option wants stands behind it: of --count, --depth, --age and --room a number from 1 to 1,000,000. Then comes the program's file, and then NAME=FILE for each input that has a file.\n",
+        report: "usage: lucid [--count N] [--depth N] [--policy keep|none|age|last] [--age K] [--room N] [--stats] [--print] [--columns LIST] [--cycles] [--why T] [--check FILE] [--flat] [--from-flat] PROGRAM [NAME=FILE]... | lucid --make N\nThis word doesn't go with those before it: 0\nWhat an option wants stands behind it: of --count, --depth, --age and --room a number from 1 to 1000000, of --columns names as n,m, of --why a time. Then comes the program's file, and then NAME=FILE for each input that has a file.\n",
     },
     Row {
         words: "p p a=f",
         source: "1",
         status: Status::Usage,
-        report: "usage: lucid [--count N] [--depth N] [--policy keep|none|age|last] [--age K] [--room N] [--stats] [--print] [--columns LIST] [--cycles] [--why T] [--check FILE] [--flat] [--from-flat] PROGRAM [NAME=FILE]... | lucid --make N\nThis word doesn't go with those before it: p\nWhat an option wants stands behind it: of --count, --depth, --age and --room a number from 1 to 1,000,000. Then comes the program's file, and then NAME=FILE for each input that has a file.\n",
+        report: "usage: lucid [--count N] [--depth N] [--policy keep|none|age|last] [--age K] [--room N] [--stats] [--print] [--columns LIST] [--cycles] [--why T] [--check FILE] [--flat] [--from-flat] PROGRAM [NAME=FILE]... | lucid --make N\nThis word doesn't go with those before it: p\nWhat an option wants stands behind it: of --count, --depth, --age and --room a number from 1 to 1000000, of --columns names as n,m, of --why a time. Then comes the program's file, and then NAME=FILE for each input that has a file.\n",
     },
     Row {
         words: "p a=f --depth",
@@ -738,7 +750,13 @@ static WORDS: [Row; 7] = [
         words: "p --count=all",
         source: "1",
         status: Status::Usage,
-        report: "usage: lucid [--count N] [--depth N] [--policy keep|none|age|last] [--age K] [--room N] [--stats] [--print] [--columns LIST] [--cycles] [--why T] [--check FILE] [--flat] [--from-flat] PROGRAM [NAME=FILE]... | lucid --make N\nThis word doesn't go with those before it: --count=all\nThis option has a number from 1 to 1,000,000, and is given once at most.\n",
+        report: "usage: lucid [--count N] [--depth N] [--policy keep|none|age|last] [--age K] [--room N] [--stats] [--print] [--columns LIST] [--cycles] [--why T] [--check FILE] [--flat] [--from-flat] PROGRAM [NAME=FILE]... | lucid --make N\nThis word doesn't go with those before it: --count=all\nThis option has a number from 1 to 1000000, in digits alone, and is given once at most.\n",
+    },
+    Row {
+        words: "p \u{2014}count=5",
+        source: "1",
+        status: Status::Usage,
+        report: "usage: lucid [--count N] [--depth N] [--policy keep|none|age|last] [--age K] [--room N] [--stats] [--print] [--columns LIST] [--cycles] [--why T] [--check FILE] [--flat] [--from-flat] PROGRAM [NAME=FILE]... | lucid --make N\nThis word doesn't go with those before it: ???count=5\nAn option begins with two plain minus signs, as --count.\n",
     },
     Row {
         words: "p --policy=lru",
@@ -750,7 +768,7 @@ static WORDS: [Row; 7] = [
         words: "p --counter=3",
         source: "1",
         status: Status::Usage,
-        report: "usage: lucid [--count N] [--depth N] [--policy keep|none|age|last] [--age K] [--room N] [--stats] [--print] [--columns LIST] [--cycles] [--why T] [--check FILE] [--flat] [--from-flat] PROGRAM [NAME=FILE]... | lucid --make N\nThis word doesn't go with those before it: --counter=3\nThe line above has the options, each of which is given once at most; of --print, --columns, --cycles, --why, --check, --flat and --from-flat one alone is given.\n",
+        report: "usage: lucid [--count N] [--depth N] [--policy keep|none|age|last] [--age K] [--room N] [--stats] [--print] [--columns LIST] [--cycles] [--why T] [--check FILE] [--flat] [--from-flat] PROGRAM [NAME=FILE]... | lucid --make N\nThis word doesn't go with those before it: --counter=3\nThe line above has the options, each of which is given once at most; of --print, --columns, --cycles, --why, --check, --flat and --from-flat one alone is given. --columns has names with commas between them, as n,m, and --why a time.\n",
     },
 ];
 
