@@ -88,6 +88,65 @@ def bytes_that_are_no_text(run):
     run.explaining().lucid("p").must("", 1, text)
 
 
+NO_VALUE = " of this input is no value, or it is `error` itself. A value is an integer, as -12, a word without quotes, as red, a string, as `two words', a list, as [% 1 2 %], `true` or `false`. Of an input x, `x whenever not iserror x` has the other lines.\n"
+
+AT_NO_PLACE = "It isn't told where this came from: the standard input can't be read again. With NAME=FILE an input has a file.\n"
+
+
+@case
+def an_error_is_traced(run):
+    run.source("t where t = a fby t + next a; end")
+    run.write("f", "1\n2.50\n3\n")
+    said = "The value at time 1 is `error`.\nt at time 1 is `error`.\na at time 1 is `error`.\np:1:28:\nt where t = a fby t + next a; end\n" + " " * 27 + "^\n"
+    line = "Line 2" + NO_VALUE + "The line is: 2.50\nAs a string it is written `2.50'.\n"
+    run.explaining().lucid("p", "a=f").must(lines(1, "error", "error"), 0, said + line)
+
+
+@case
+def the_first_error_is_traced(run):
+    run.source("t where t = (hd 1) fby t; end")
+    said = "The value at time 0 is `error`.\nt at time 0 is `error`.\np:1:14:\nt where t = (hd 1) fby t; end\n" + " " * 13 + "^\nAt time 0 `hd` gets 1: it wants a list.\n"
+    run.explaining().lucid("p", "--count=3").must(lines("error", "error", "error"), 0, said)
+
+
+@case
+def an_error_by_the_standard_input_has_no_place(run):
+    run.source("hd a")
+    said = 'The input a is read from here, a value on each line.\nIf no input is meant: define the name, or write a word between two ", as in "red".\n'
+    run.explaining().lucid("p", given=b"1\n").must(lines("error"), 0, AT_NO_PLACE + said)
+
+
+@case
+def an_error_by_a_pipe_is_not_traced(run):
+    run.source("hd a")
+    os.mkfifo(run.path("pipe"))
+    run.explaining().shell("printf '1\\n' > pipe & exec \"$LUCID\" p a=pipe").must(lines("error"), 0, "")
+
+
+@case
+def an_empty_input_is_told_of(run):
+    run.source("a + 1")
+    run.write("f", "")
+    said = "The value at time 0 is `eod`, the end of data: a run ends before it.\na at time 0 is `eod`.\np:1:1:\na + 1\n^\nThis input ends before line 1, or that line is `eod` itself.\n"
+    run.explaining().lucid("p", "a=f").must("", 0, said)
+
+
+@case
+def a_run_of_20_lines_may_have_more(run):
+    run.source("n where n = 0 fby n + 1; end")
+    said = "A run writes 20 lines where no count is given: with --count N it writes N, 1000000 at most.\n"
+    run.explaining().lucid("p").must(lines(*range(20)), 0, said)
+    run.explaining().lucid("p", "--count=20").must(lines(*range(20)), 0, "")
+
+
+@case
+def the_greatest_depth_is_known(run):
+    run.source("1 asa false")
+    judged = "too deep at time 0\n`--cycles` says: not judged at 2\nHere is a search: it looks at times below the depth limit alone. "
+    search = "If its test is never true again, no depth is enough: --count asks for the lines that there are. If it is true later:\n"
+    run.explaining().lucid("p", "--depth=1000000").must("", 5, judged + search + "The limit is the greatest --depth already, 1000000.\n")
+
+
 @case
 def a_place_at_the_very_end(run):
     run.source("1 +\n")

@@ -5,7 +5,8 @@ ghost use Rattle.std.specs.Prelude.{◌≡◌, ◌≢◌, Ok, Err, OnOk};
 ghost use Rattle.std.specs.Process.{exit_status};
 ghost use Rattle.lucid_report.specs.Status.{code_of};
 
-use lucid_explain_command::{RealOutlook, lucid_explain_from_arguments, text_asked};
+use lucid_explain_command::{Watched, lucid_explain_from_arguments, text_asked};
+use lucid_explain_report::RealOutlook;
 use lucid_ports::{PortFault, RealPlaces, RealSink, write_whole};
 use lucid_report::{Done, Refusal, Status, Stop, tell};
 use std::fs::File;
@@ -51,7 +52,7 @@ fn real_status(rt: &HostRuntime) -> Status {
         Ok(arguments) => arguments,
         Err(stop) => return tell(&mut report, &Err(stop)),
     };
-    let mut out = RealSink::make(rt.stdout());
+    let mut out = Watched::make(RealSink::make(rt.stdout()));
     if let Some(text) = text_asked(&arguments) {
         let outcome = outcome_of(write_whole(&mut out, text));
         return tell(&mut report, &outcome);

@@ -1,11 +1,15 @@
 -- A call with a report in memory, and a report with its line.
+use Rattle.std.proofs.Common.{Global, Vec, inl, inr, refl}
+use Rattle.std.specs.Prelude.{Result, Ok, Err, IfOk}
+use Rattle.std.specs.declared.alloc.AllocError.{AllocError}
 use Rattle.lucid_explain_command.proofs.Common.{◌≡◌, ℕ, List, [], subst, Text}
 use Rattle.lucid_ports.specs.Told.{Told}
 use Rattle.lucid_report.specs.declared.status.Status.{Status}
 use Rattle.lucid_top.specs.Call.{Call}
 use Rattle.lucid_top.specs.Clauses.{MeetsClauses}
-use Rattle.lucid_explain_command.specs.Files.{Files}
-use Rattle.lucid_explain_command.specs.Explained.{in_memory, Reports}
+use Rattle.lucid_explain_report.specs.Files.{Files}
+use Rattle.lucid_explain_command.specs.Errors.{in_memory}
+use Rattle.lucid_explain_command.specs.Explained.{unsaid_text, or_unsaid, Writes, WritesText, Reports}
 
 -- the report is empty before the call
 pub begun_empty : (c : Call) (bytes : List ℕ) (faults late : ℕ) (after : Told) (s : Status) → bytes ≡ [] → faults ≡ 0 → late ≡ 0
@@ -23,3 +27,9 @@ pub reported_as : (files : Files) (words : List Text) (line other : List ℕ) (b
 reported_as files words line other before after e reports =
     let P : List ℕ → Type 0 = λ z. Reports files words z before after in
     subst P e reports
+
+-- a text that was made is reported, or that there was no memory for it
+pub writes_made : (made : Result (Vec ℕ Global) AllocError) (IsText : List ℕ → Type 0) (before after : Told) → IfOk made (λ text. IsText text.items)
+    → Writes (or_unsaid made) before after → WritesText IsText before after
+writes_made (Ok text) IsText before after is writes = (text.items, inl is, writes)
+writes_made (Err error) IsText before after is writes = (unsaid_text, inr refl, writes)

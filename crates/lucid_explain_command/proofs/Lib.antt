@@ -1,5 +1,5 @@
 pub mod Common
 pub mod Explaining
-pub mod Told
-pub mod Telling
-pub mod Begins
+pub mod Again
+pub mod Making
+pub mod Noting

@@ -1,5 +1,7 @@
 -- What a call that explains does: what the command does with the same words, with more behind its report.
-use Rattle.std.specs.Prelude.{◌≡◌, ℕ, Bool, true, false, List, [], codes, Some, Result, Err, ◌⊎◌}
+use Rattle.std.specs.Prelude.{◌≡◌, ℕ, Bool, true, false, List, [], codes, Option, Some, None, Result, Ok, Err, ◌⊎◌, Vec}
+use Rattle.std.specs.Global.{Global}
+use Rattle.std.specs.declared.alloc.AllocError.{AllocError}
 use Rattle.clap.specs.Words.{Text}
 use Rattle.lucid_ports.specs.declared.fault.PortFault.{PortFault}
 use Rattle.lucid_ports.specs.Told.{Told}
@@ -7,22 +9,31 @@ use Rattle.lucid_report.specs.declared.status.Status.{Status}
 use Rattle.lucid_top.specs.Call.{Call}
 use Rattle.lucid_top.specs.Clauses.{MeetsClauses}
 use Rattle.lucid_report.specs.Telling.{WritesWhole, WritesLine}
-use Rattle.lucid_explain_command.specs.Files.{Files}
-use Rattle.lucid_explain_command.specs.Said.{IsExplanation}
+use Rattle.lucid_explain_report.specs.Files.{Files}
+use Rattle.lucid_explain_report.specs.Said.{IsExplanation}
 use Rattle.lucid_explain_command.specs.Prompted.{IsPrompt}
-
--- a report in memory of which these bytes are written
-abbrev pub in_memory : (bytes : List ℕ) → (faults late : ℕ) → Told
-in_memory bytes faults late = record { bytes = Some bytes; faults = faults; late = late }
+use Rattle.lucid_explain_command.specs.Noting.{Seen, Notes}
+use Rattle.lucid_explain_command.specs.declared.behind.Behind.{Behind}
+use Rattle.lucid_explain_command.specs.declared.behind.Behind.TheVariants as behind
+use Rattle.lucid_explain_command.specs.Behind.{behind_of, SaysCount}
+use Rattle.lucid_explain_command.specs.Errors.{in_memory, SaysError}
 
 -- what is said where there is no memory for what would be said
 abbrev pub unsaid_text : List ℕ
 unsaid_text = codes "There is not memory enough to explain this.\n"
 
--- Such a text is reported, or that there was no memory for it: whole, or a front of it where a write failed.
+-- a text, or that there was no memory for it
+abbrev pub or_unsaid : Result (Vec ℕ Global) AllocError → List ℕ
+or_unsaid (Ok text) = text.items
+or_unsaid (Err error) = unsaid_text
+
+-- A text is reported: whole, or a front of it where a write failed.
+abbrev pub Writes : (text : List ℕ) → (before after : Told) → Type 0
+Writes text before after = (written : Result (Unit {0}) PortFault) × WritesLine text written before after
+
+-- Such a text is reported so, or that there was no memory for it.
 abbrev pub WritesText : (IsText : List ℕ → Type 0) → (before after : Told) → Type 0
-WritesText IsText before after =
-    (text : List ℕ) × (written : Result (Unit {0}) PortFault) × (IsText text ⊎ (text ≡ unsaid_text)) × WritesLine text written before after
+WritesText IsText before after = (text : List ℕ) × (IsText text ⊎ (text ≡ unsaid_text)) × Writes text before after
 
 -- Before the call nothing is reported, but where the standard input is a terminal.
 abbrev pub Prompts : (files : Files) → (words : List Text) → (terminal : Bool) → (before after : Told) → Type 0
@@ -38,13 +49,23 @@ pub data Reports (files : Files) (words : List Text) (line : List ℕ) (before a
   cut_off : (fault : PortFault) → WritesLine line (failed fault) before after → Reports files words line before after
   whole : (between : Told) → WritesWhole line before between → WritesText (IsExplanation files words line) between after → Reports files words line before after
 
+-- Behind this it is reported where a value came from, or how many lines a run writes, or nothing.
+abbrev pub ReportsBehind : (files : Files) → (terminal : Bool) → (words : List Text) → Behind → (before after : Told) → Type 0
+ReportsBehind files terminal words (behind.Value time) before after = WritesText (SaysError files terminal words time) before after
+ReportsBehind files terminal words behind.Count before after = WritesText (SaysCount words) before after
+ReportsBehind files terminal words behind.Nothing before after = after ≡ before
+
 -- The clauses of the command hold of the call and its status, with a report in memory; and what is reported is the line of that, with what explains
--- it behind it, and where the standard input is a terminal with what is read from there before it.
-pub record IsExplained (files : Files) (terminal : Bool) (words : List Text) (c : Call) (report_before report_after : Told) (s : Status) : Type 0 where
+-- it behind it, and where the standard input is a terminal with what is read from there before it. Behind all stands where an `error` came from, or
+-- how many lines a run writes, by what is noted of the bytes that were written.
+pub record IsExplained (files : Files) (terminal : Bool) (words : List Text) (c : Call) (seen : Seen) (report_before report_after : Told) (s : Status) : Type 0 where
   pub line : List ℕ
   pub faults : ℕ
   pub late : ℕ
   pub between : Told
   pub clauses : MeetsClauses c (in_memory [] 0 0) (in_memory line faults late) s
   pub prompts : Prompts files words terminal report_before between
-  pub reports : Reports files words line between report_after
+  pub noted : Notes c.out_after.bytes seen
+  pub halfway : Told
+  pub reports : Reports files words line between halfway
+  pub more : ReportsBehind files terminal words (behind_of s seen) halfway report_after

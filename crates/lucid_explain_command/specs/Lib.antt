@@ -1,6 +1,6 @@
-pub mod Files
-pub mod Lines
-pub mod Said
 pub mod Prompted
+pub mod Noting
+pub mod Behind
+pub mod Errors
 pub mod Explained
 pub mod Help

@@ -1,10 +1,10 @@
 -- What is said before a call, where the standard input is a terminal.
-use Rattle.std.specs.Prelude.{◌≡◌, ℕ, Bool, ◌||◌, not, List, [], ◌∷◌, Option, Some, None, if◌then◌else◌}
+use Rattle.std.specs.Prelude.{◌≡◌, ℕ, Bool, ◌&&◌, ◌||◌, ◌==◌, not, is_some, length, List, [], ◌∷◌, Option, Some, None, if◌then◌else◌}
 use Rattle.clap.specs.Words.{Text}
 use Rattle.lucid_words.specs.Asked.{PlainWords, words_asked}
 use Rattle.lucid_explain_run.specs.Prompts.{TellsPrompt}
-use Rattle.lucid_explain_command.specs.Files.{Files, Held, holds, unread, gone, IsSeen}
-use Rattle.lucid_explain_command.specs.Said.{past_source, names_given, is_none_of, source_file}
+use Rattle.lucid_explain_report.specs.Files.{Files, Held, holds, unread, gone, IsSeen}
+use Rattle.lucid_explain_report.specs.Said.{past_source, names_given, is_none_of, source_file}
 
 -- The words ask for a text of the program; or for columns.
 abbrev pub asks_text : PlainWords → Bool
@@ -12,6 +12,10 @@ asks_text asked = asked.print || asked.cycles || asked.flat || asked.from_flat
 
 abbrev pub asks_columns : PlainWords → Bool
 asks_columns asked = not (is_none_of asked.columns)
+
+-- they ask for lines of values, and for no certificate
+abbrev pub asks_lines : PlainWords → Bool
+asks_lines asked = not (asks_text asked) && (not (is_some asked.why) && (length asked.check == 0))
 
 -- the file of the program whose one stream is run, or of whose value a certificate is made or checked
 abbrev pub run_file : PlainWords → Option Text

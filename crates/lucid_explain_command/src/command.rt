@@ -5,13 +5,18 @@ ghost use Rattle.lucid_words.specs.Asked.{words_asked};
 ghost use Rattle.lucid_top.specs.Call.{call};
 ghost use Rattle.lucid_ports.specs.Told.{told};
 ghost use Rattle.lucid_report.specs.Telling.{WritesLine};
-ghost use Rattle.lucid_explain_command.specs.Said.{IsExplanation};
+ghost use Rattle.lucid_explain_report.specs.Said.{IsExplanation};
 ghost use Rattle.lucid_explain_command.specs.Prompted.{IsPrompt};
-ghost use Rattle.lucid_explain_command.specs.Explained.{unsaid_text, WritesText, Prompts, Reports, IsExplained};
+ghost use Rattle.lucid_explain_command.specs.Noting.{plain_noted};
+ghost use Rattle.lucid_explain_command.specs.Behind.{SaysCount};
+ghost use Rattle.lucid_explain_command.specs.Errors.{SaysError};
+ghost use Rattle.lucid_explain_command.specs.Explained.{unsaid_text, or_unsaid, Writes, WritesText, Prompts, Reports, ReportsBehind, IsExplained};
 
-use crate::causes::explain;
-use crate::outlook::Outlook;
+use crate::behind::{Behind, behind_of, text_of_count};
+use crate::errors::text_of_error;
 use crate::prompt::text_of_prompt;
+use crate::watched::Watched;
+use lucid_explain_report::{Outlook, explain_report};
 use lucid_ports::{MemorySink, Places, PortFault, Sink, write_whole};
 use lucid_report::Status;
 use lucid_top::lucid;
@@ -31,11 +36,11 @@ fn report_unsaid<E: Sink>(report: &mut E) -> Result<(), PortFault>
     write_line(report, b"There is not memory enough to explain this.\n")
 }
 
-// Reports what is said before the call, or that there was no memory for it.
-fn report_prompt<E: Sink, F: Outlook>(alloc: Global, words: &[String], outlook: &F, report: &mut E)
-    ensures { WritesText (IsPrompt (F.files outlook.now) (map string_bytes words.now)) (told E.written E.faults E.late report.old) (told E.written E.faults E.late report.new) }
+// Reports a text, or that there was no memory for it.
+fn report_text<E: Sink>(report: &mut E, text: Result<Vec<u8>, AllocError>)
+    ensures { Writes (or_unsaid text) (told E.written E.faults E.late report.old) (told E.written E.faults E.late report.new) }
 {
-    match text_of_prompt(alloc, words, outlook) {
+    match text {
         Ok(text) => {
             let _ = write_line(report, &text);
         }
@@ -43,6 +48,13 @@ fn report_prompt<E: Sink, F: Outlook>(alloc: Global, words: &[String], outlook: 
             let _ = report_unsaid(report);
         }
     }
+}
+
+// Reports what is said before the call, or that there was no memory for it.
+fn report_prompt<E: Sink, F: Outlook>(alloc: Global, words: &[String], outlook: &F, report: &mut E)
+    ensures { WritesText (IsPrompt (F.files outlook.now) (map string_bytes words.now)) (told E.written E.faults E.late report.old) (told E.written E.faults E.late report.new) }
+{
+    report_text(report, text_of_prompt(alloc, words, outlook));
 }
 
 // Says what is read of the standard input, where that is a terminal.
@@ -69,14 +81,7 @@ fn report_cause<E: Sink, F: Outlook>(
 )
     ensures { WritesText (IsExplanation (F.files outlook.now) (map string_bytes words.now) line.now) (told E.written E.faults E.late report.old) (told E.written E.faults E.late report.new) }
 {
-    match explain(alloc, words, line, outlook) {
-        Ok(text) => {
-            let _ = write_line(report, &text);
-        }
-        Err(_) => {
-            let _ = report_unsaid(report);
-        }
-    }
+    report_text(report, explain_report(alloc, words, line, outlook));
 }
 
 // Reports the line of a call that ended so, and behind it what explains the line.
@@ -95,25 +100,67 @@ fn report_call<E: Sink, F: Outlook>(
     }
 }
 
+// Reports where the value at a time came from, or that there was no memory for it.
+fn report_time<E: Sink, F: Outlook>(
+    alloc: Global,
+    words: &[String],
+    time: u64,
+    outlook: &F,
+    report: &mut E,
+)
+    ensures { WritesText (SaysError (F.files outlook.now) (F.terminal outlook.now) (map string_bytes words.now) time) (told E.written E.faults E.late report.old) (told E.written E.faults E.late report.new) }
+{
+    report_text(report, text_of_error(alloc, words, time, outlook));
+}
+
+// Reports how many lines a run writes, or that there was no memory for it.
+fn report_count<E: Sink>(alloc: Global, words: &[String], report: &mut E)
+    ensures { WritesText (SaysCount (map string_bytes words.now)) (told E.written E.faults E.late report.old) (told E.written E.faults E.late report.new) }
+{
+    report_text(report, text_of_count(alloc, words));
+}
+
+// Reports that of which more is said.
+fn report_behind<E: Sink, F: Outlook>(
+    alloc: Global,
+    words: &[String],
+    behind: Behind,
+    outlook: &F,
+    report: &mut E,
+)
+    ensures { ReportsBehind (F.files outlook.now) (F.terminal outlook.now) (map string_bytes words.now) behind (told E.written E.faults E.late report.old) (told E.written E.faults E.late report.new) }
+{
+    match behind {
+        Behind::Value(time) => report_time(alloc, words, time, outlook, report),
+        Behind::Count => report_count(alloc, words, report),
+        Behind::Nothing => {}
+    }
+}
+
 /// Does what the command does with these words, and answers its status. It reports the command's line, and behind it what explains the line,
-/// for which files may be read again. Where the standard input is a terminal, it says before the call which input is read from there.
+/// for which files may be read again. Where the standard input is a terminal, it says before the call which input is read from there. Behind a run
+/// that wrote `error`, or that is done and wrote no line, it says where the value came from, for which files are read again too; and
+/// behind 20 lines, where no count is given, that there may be more.
 pub fn lucid_explain<P: Places, K: Sink, E: Sink, F: Outlook>(
     alloc: Global,
     words: &[String],
     places: &mut P,
     outlook: &F,
-    out: &mut K,
+    out: &mut Watched<K>,
     report: &mut E,
 ) -> Status
     requires { (P.world places.old).reached ≡ 0 }
     ensures { IsExplained (F.files outlook.now) (F.terminal outlook.now) (map string_bytes words.now)
-        (call (words_asked (map string_bytes words.now)) (P.world places.old) (P.world places.new) (told K.written K.faults K.late out.old) (told K.written K.faults K.late out.new))
+        (call (words_asked (map string_bytes words.now)) (P.world places.old) (P.world places.new) (told K.written K.faults K.late out.old.sink) (told K.written K.faults K.late out.new.sink))
+        (plain_noted out.new.noted)
         (told E.written E.faults E.late report.old) (told E.written E.faults E.late report.new) result }
 {
     let mut line = MemorySink::make(alloc, usize::MAX, Vec::new(alloc));
     prompt_terminal(alloc, words, outlook, report);
     let status = lucid(alloc, words, places, out, &mut line);
     report_call(alloc, words, line.written(), outlook, report);
+    let behind = behind_of(status, out.noted());
+    report_behind(alloc, words, behind, outlook, report);
     status
 }
 
@@ -133,12 +180,13 @@ pub fn lucid_explain_from_arguments<P: Places, K: Sink, E: Sink, F: Outlook>(
     arguments: &[String],
     places: &mut P,
     outlook: &F,
-    out: &mut K,
+    out: &mut Watched<K>,
     report: &mut E,
 ) -> Status
     requires { (P.world places.old).reached ≡ 0 }
     ensures { IsExplained (F.files outlook.now) (F.terminal outlook.now) (map string_bytes (drop 1 arguments.now))
-        (call (words_asked (map string_bytes (drop 1 arguments.now))) (P.world places.old) (P.world places.new) (told K.written K.faults K.late out.old) (told K.written K.faults K.late out.new))
+        (call (words_asked (map string_bytes (drop 1 arguments.now))) (P.world places.old) (P.world places.new) (told K.written K.faults K.late out.old.sink) (told K.written K.faults K.late out.new.sink))
+        (plain_noted out.new.noted)
         (told E.written E.faults E.late report.old) (told E.written E.faults E.late report.new) result }
 {
     lucid_explain(alloc, words_of(arguments), places, outlook, out, report)

@@ -1,18 +1,18 @@
-//! The command with its report explained: the same output and the same status, and more behind the line of the report.
+//! The command with its report explained: the same output and the same status, more behind the line of the report, and behind a run where an `error`
+//! came from.
 #![tactic(auto)]
 
 pub use crate::command::{lucid_explain, lucid_explain_from_arguments};
 pub use crate::help::text_asked;
-pub use crate::lines::line_text;
-pub use crate::outlook::{Again, Outlook, RealOutlook};
+pub use crate::noted::Noted;
+pub use crate::watched::Watched;
 
-mod causes;
+mod again;
+mod behind;
+mod certified;
 mod command;
-mod faults;
+mod errors;
 mod help;
-mod judgments;
-mod lines;
-mod outlook;
+mod noted;
 mod prompt;
-mod sources;
-mod usage;
+mod watched;

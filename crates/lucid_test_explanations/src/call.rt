@@ -2,7 +2,8 @@
 ghost use Rattle.std.specs.Prelude.{◌≡◌, IfOk};
 ghost use Rattle.lucid_ports.specs.MemoryView.{memory_world};
 
-use lucid_explain_command::{Again, Outlook, lucid_explain};
+use lucid_explain_command::{Watched, lucid_explain};
+use lucid_explain_report::{Again, Outlook};
 use lucid_ports::{MemoryFile, MemoryPlaces, MemorySink, Sink};
 use lucid_report::Status;
 use std::alloc::{AllocError, Global};
@@ -77,7 +78,7 @@ pub(crate) fn call_into<K: Sink>(
     alloc: Global,
     words: &str,
     source: &[u8],
-    out: &mut K,
+    out: &mut Watched<K>,
     outlook: &OneFile<'_>,
 ) -> Result<Answer, AllocError> {
     let words = words_of(alloc, words)?;
@@ -94,7 +95,7 @@ pub(crate) fn call(
     source: &[u8],
     outlook: &OneFile<'_>,
 ) -> Result<Answer, AllocError> {
-    let mut out = MemorySink::make(alloc, 100, Vec::new(alloc));
+    let mut out = Watched::make(MemorySink::make(alloc, 100, Vec::new(alloc)));
     call_into(alloc, words, source, &mut out, outlook)
 }
 

@@ -1,5 +1,6 @@
 //! An output for which there is never memory, and a source that reads otherwise when it is read again.
 use crate::call::{OneFile, call, call_into};
+use lucid_explain_command::Watched;
 use lucid_ports::{PortFault, Sink};
 use lucid_report::Status;
 use std::alloc::{AllocError, Global};
@@ -33,7 +34,8 @@ const NO_MEMORY: &str =
     "no memory\nThere is not memory enough. A smaller --depth needs less, and so does --policy last with a small --room.\n";
 
 fn is_told(alloc: Global) -> Result<bool, AllocError> {
-    let answer = call_into(alloc, "p", b"1", &mut NoRoom {}, &ONE_INPUT)?;
+    let mut out = Watched::make(NoRoom {});
+    let answer = call_into(alloc, "p", b"1", &mut out, &ONE_INPUT)?;
     Ok(answer.tells(Status::NoMemory, NO_MEMORY))
 }
 

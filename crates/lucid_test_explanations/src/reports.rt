@@ -869,16 +869,80 @@ static OTHERS: [Row; 10] = [
         report: "too deep at time 0\n`--cycles` says: cycle x at 8: sum 0\nA value of these names needs one of them at the same time or at a later one: so there may be no depth that is enough. An `fby` leads back by one time, and a `next` forward.\n",
     },
     Row {
+        words: "--count 2 p",
+        source: "1",
+        status: Status::Done,
+        report: "",
+    },
+    Row {
+        words: "--stats --count 2 p",
+        source: "1",
+        status: Status::Done,
+        report: "lines 2 held 0 lost 0 cleared 0\n",
+    },
+];
+
+// Runs that write `error`, no line or 20 lines, and others of which nothing is said. In the fifth the input has the one line `hd a`.
+static DONE: [Row; 10] = [
+    Row {
         words: "p",
-        source: "eod",
+        source: "1 + \"dog\"",
+        status: Status::Done,
+        report: "The value at time 0 is `error`.\np:1:3:\n1 + \"dog\"\n  ^\nAt time 0 `+` gets 1 and dog: it wants two integers.\nStrings, as `red' and `blue', are joined by `^`, and lists by `<>`.\n",
+    },
+    Row {
+        words: "p",
+        source: "6 div (2 - n) where n = 0 fby n + 1; end",
+        status: Status::Done,
+        report: "The value at time 2 is `error`.\np:1:3:\n6 div (2 - n) where n = 0 fby n + 1; end\n  ^\nAt time 2 `div` gets 6 and 0: the divisor is 0.\n",
+    },
+    Row {
+        words: "--count 2 p",
+        source: "6 div (2 - n) where n = 0 fby n + 1; end",
         status: Status::Done,
         report: "",
     },
     Row {
         words: "--stats p",
+        source: "hd [% %]",
+        status: Status::Done,
+        report: "lines 20 held 0 lost 0 cleared 0\nThe value at time 0 is `error`.\np:1:1:\nhd [% %]\n^\nAt time 0 `hd` gets [% %]: the list is empty.\n",
+    },
+    Row {
+        words: "p a=p",
+        source: "hd a",
+        status: Status::Done,
+        report: "The value at time 0 is `error`.\na at time 0 is `error`.\np:1:4:\nhd a\n   ^\nLine 1 of this input is no value, or it is `error` itself. A value is an integer, as -12, a word without quotes, as red, a string, as `two words', a list, as [% 1 2 %], `true` or `false`. Of an input x, `x whenever not iserror x` has the other lines.\nThe line is: hd a\nAs a string it is written `hd a'.\n",
+    },
+    Row {
+        words: "p",
         source: "eod",
         status: Status::Done,
-        report: "lines 0 held 0 lost 0 cleared 0\n",
+        report: "The value at time 0 is `eod`, the end of data: a run ends before it.\np:1:1:\neod\n^\nHere `eod` itself is written.\n",
+    },
+    Row {
+        words: "p",
+        source: "`error ' fby 1",
+        status: Status::Done,
+        report: "A run writes 20 lines where no count is given: with --count N it writes N, 1000000 at most.\n",
+    },
+    Row {
+        words: "--count=20 p",
+        source: "1",
+        status: Status::Done,
+        report: "",
+    },
+    Row {
+        words: "--columns x,y p",
+        source: "x where x = error; y = 1; end",
+        status: Status::Done,
+        report: "A run writes 20 lines where no count is given: with --count N it writes N, 1000000 at most.\n",
+    },
+    Row {
+        words: "--print p",
+        source: "error",
+        status: Status::Done,
+        report: "",
     },
 ];
 
@@ -907,7 +971,8 @@ fn reports_are_explained(rt: HostRuntime) -> Result<(), Fail> {
     each_passes(alloc, &INPUTS)?;
     each_passes(alloc, &WORDS)?;
     each_passes(alloc, &RUNS)?;
-    each_passes(alloc, &OTHERS)
+    each_passes(alloc, &OTHERS)?;
+    each_passes(alloc, &DONE)
 }
 
 // Whether a report begins and ends so.
@@ -969,7 +1034,7 @@ static PROMPTS: [(&str, &str, &str); 10] = [
     ),
     ("p sale=p", "sales * 2", "no input is named sale\n"),
     ("p a=p a=p", "a + b", "a is given twice\n"),
-    ("p", "eod", ""),
+    ("--count 1 p", "1", ""),
     ("--print p", "a", ""),
 ];
 

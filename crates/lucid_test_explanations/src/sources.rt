@@ -1,6 +1,6 @@
 //! Places by line and column, and as they are shown; what may stand at a place; what is said of lines of certificates.
-use lucid_explain_command::line_text;
 use lucid_explain_places::{Position, position_of, put_place, standing};
+use lucid_explain_report::line_text;
 use std::alloc::{AllocError, Global};
 use std::test::Fail;
 

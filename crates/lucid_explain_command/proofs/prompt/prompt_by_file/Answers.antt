@@ -2,9 +2,9 @@ use Rattle.std.proofs.Common.{ℕ, List, sym, subst}
 use Rattle.std.proofs.lemmas.Result.{IfOk-weaker}
 use Rattle.lucid_words.specs.Asked.{plain_words}
 use Rattle.lucid_explain_run.specs.Prompts.{TellsPrompt}
-use Rattle.lucid_explain_command.specs.declared.outlook.Again.{Again}
-use Rattle.lucid_explain_command.specs.Files.{plain_again}
-use Rattle.lucid_explain_command.specs.Said.{names_given}
+use Rattle.lucid_explain_report.specs.declared.outlook.Again.{Again}
+use Rattle.lucid_explain_report.specs.Files.{plain_again}
+use Rattle.lucid_explain_report.specs.Said.{names_given}
 use Rattle.lucid_explain_command.specs.Prompted.{PromptsBy}
 use Rattle.lucid_explain_command.proofs.prompt.prompt_by_file.Goals as goal
 

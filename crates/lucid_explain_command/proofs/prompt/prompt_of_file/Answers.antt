@@ -2,7 +2,7 @@ use Rattle.std.proofs.Common.{map}
 use Rattle.std.specs.String.{string_bytes}
 use Rattle.std.proofs.lemmas.Result.{IfOk-weaker}
 use Rattle.lucid_words.specs.Asked.{plain_words}
-use Rattle.lucid_explain_command.specs.Files.{plain_again}
+use Rattle.lucid_explain_report.specs.Files.{plain_again}
 use Rattle.lucid_explain_command.specs.Prompted.{PromptsBy, IsPrompt, run}
 use Rattle.lucid_explain_command.proofs.prompt.prompt_of_file.Goals as goal
 

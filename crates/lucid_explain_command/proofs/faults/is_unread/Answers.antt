@@ -1,5 +1,0 @@
-use Rattle.lucid_explain_command.specs.Files.{plain_again}
-use Rattle.lucid_explain_command.proofs.faults.is_unread.Goals as goal
-
-pub returns : goal.returns
-returns g c = (plain_again c.in_ok-again.again, c.in_ok-again.ensures, c.shows_unread.ensures)

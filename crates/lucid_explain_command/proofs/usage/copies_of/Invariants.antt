@@ -1,5 +1,0 @@
-use Rattle.lucid_explain_command.proofs.Common.{◌≡◌, map, take, string_bytes}
-use Rattle.lucid_explain_command.proofs.usage.copies_of.Given as goal
-
-abbrev pub invariant-loop-word : goal.invariant-loop-word
-invariant-loop-word l = map string_bytes l.copies.items ≡ map string_bytes (take l.word-index l.words)

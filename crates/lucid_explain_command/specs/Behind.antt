@@ -1,0 +1,42 @@
+-- Of what more is said behind a call.
+use Rattle.std.specs.Prelude.{◌≡◌, ℕ, ◌==◌, nat_eq, ◌&&◌, not, Bool, if◌then◌else◌, List, [], codes, Option, Some, None}
+use Rattle.std.specs.List.{list_any, starts_with}
+use Rattle.clap.specs.Words.{Text}
+use Rattle.lucid_words.specs.Asked.{PlainWords, words_asked}
+use Rattle.lucid_report.specs.declared.status.Status.{Status}
+use Rattle.lucid_report.specs.declared.status.Status.TheVariants as status
+use Rattle.lucid_explain_command.specs.Noting.{Seen}
+use Rattle.lucid_explain_command.specs.declared.behind.Behind.{Behind}
+use Rattle.lucid_explain_command.specs.declared.behind.Behind.TheVariants as behind
+use Rattle.lucid_explain_command.specs.Prompted.{asks_lines}
+
+-- Where the value at time 0 came from, where a call is done that wrote no line; how many lines a run writes, where it wrote 20.
+abbrev pub lines_behind : (lines : ℕ) → Behind
+lines_behind n = if n == 0 then behind.Value 0 else if n == 20 then behind.Count else behind.Nothing
+
+abbrev pub done_behind : Status → (lines : ℕ) → Behind
+done_behind status.Done n = lines_behind n
+done_behind _ n = behind.Nothing
+
+-- Where the value came from of the first line that was `error`, if one was; else that.
+abbrev pub first_or : Option ℕ → Behind → Behind
+first_or (Some t) other = behind.Value t
+first_or None other = other
+
+abbrev pub behind_of : Status → Seen → Behind
+behind_of s seen = first_or seen.first (done_behind s seen.lines)
+
+-- one of the words is `--count`, or begins so
+abbrev pub has_count : (words : List Text) → Bool
+has_count words = list_any (λ word. starts_with nat_eq word (codes "--count")) words
+
+-- what is said of the number of lines: where lines of values are asked for, and no count
+abbrev pub count_text : List ℕ
+count_text = codes "A run writes 20 lines where no count is given: with --count N it writes N, 1000000 at most.\n"
+
+abbrev pub count_said : (words : List Text) → PlainWords → List ℕ
+count_said words asked = if asks_lines asked && not (has_count words) then count_text else []
+
+pub data SaysCount (words : List Text) (text : List ℕ) : Type 0 where
+  refused_words : words_asked words ≡ None → text ≡ [] → SaysCount words text
+  read : (asked : PlainWords) → words_asked words ≡ Some asked → text ≡ count_said words asked → SaysCount words text

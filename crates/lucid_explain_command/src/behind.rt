@@ -1,0 +1,89 @@
+//! Of what more is said behind a call.
+ghost use Rattle.std.specs.Prelude.{◌≡◌, map, IfOk};
+ghost use Rattle.std.specs.String.{string_bytes};
+ghost use Rattle.lucid_words.specs.Asked.{plain_words, words_asked};
+ghost use Rattle.lucid_explain_command.specs.Noting.{plain_noted};
+ghost use Rattle.lucid_explain_command.specs.Behind.{lines_behind, done_behind, behind_of, has_count, count_said, SaysCount};
+
+use crate::noted::Noted;
+use crate::prompt::asks_lines;
+use lucid_report::Status;
+use lucid_words::{Words, WordsRefusal, read_words};
+use std::alloc::{AllocError, Global};
+
+/// Of what more is said behind a call.
+#[derive(Clone, Copy)]
+pub(crate) enum Behind {
+    /// Where the value at a time came from.
+    Value(u64),
+    /// How many lines a run writes.
+    Count,
+    Nothing,
+}
+
+// So many lines are written where no count is given.
+const COUNT: u64 = 20;
+
+// Behind a call that is done, by how many lines it wrote.
+fn lines_behind(lines: u64) -> Behind
+    ensures { result ≡ lines_behind lines }
+{
+    if lines == 0 {
+        Behind::Value(0)
+    } else if lines == COUNT {
+        Behind::Count
+    } else {
+        Behind::Nothing
+    }
+}
+
+// Behind a call that ended so and wrote so many lines.
+fn done_behind(status: Status, lines: u64) -> Behind
+    ensures { result ≡ done_behind status lines }
+{
+    match status {
+        Status::Done => lines_behind(lines),
+        _ => Behind::Nothing,
+    }
+}
+
+/// Of what more is said behind a call that ended so, by what was noted of its lines.
+pub(crate) fn behind_of(status: Status, noted: Noted) -> Behind
+    ensures { result ≡ behind_of status (plain_noted noted) }
+{
+    match noted.first {
+        Some(time) => Behind::Value(time),
+        None => done_behind(status, noted.lines),
+    }
+}
+
+// Whether one of the words is `--count`, or begins so.
+fn has_count(words: &[String]) -> bool
+    ensures { result ≡ has_count (map string_bytes words.now) }
+{
+    words
+        .iter()
+        .any(|word| word.as_bytes().starts_with(b"--count"))
+}
+
+// What is said of the number of lines.
+fn count_said(words: &[String], asked: &Words) -> &'static [u8]
+    ensures { result.now ≡ count_said (map string_bytes words.now) (plain_words asked.now) }
+{
+    if asks_lines(asked) && !has_count(words) {
+        b"A run writes 20 lines where no count is given: with --count N it writes N, 1000000 at most.\n"
+    } else {
+        b""
+    }
+}
+
+/// What is said of the number of lines of a call with these words.
+pub(crate) fn text_of_count(alloc: Global, words: &[String]) -> Result<Vec<u8>, AllocError>
+    ensures { IfOk result (λ text. SaysCount (map string_bytes words.now) text.items) }
+{
+    match read_words(alloc, words) {
+        Ok(asked) => Vec::from_slice(alloc, count_said(words, &asked)),
+        Err(WordsRefusal::Usage) => Ok(Vec::new(alloc)),
+        Err(WordsRefusal::NoMemory) => Err(AllocError),
+    }
+}
