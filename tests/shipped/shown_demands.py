@@ -215,6 +215,13 @@ def refusals_are_those_of_the_command(run):
 
 
 @case
+def a_line_takes_no_time_for_those_below(run):
+    run.source(FIB)
+    out = run.showing().lucid("p", "--at", "90").must().out.decode()
+    check(out.startswith("output at 90 is 2880067194370816120   = f at 90\n  f at 90 is 2880067194370816120   = g at 89\n"), shown(out[:200]))
+
+
+@case
 def a_thousand_levels_are_told_by_their_numbers(run):
     run.source("x where x = 0 fby x + 1; end")
     out = run.showing().lucid("p", "--at", "1000").must().out.decode().splitlines()

@@ -6,7 +6,7 @@ use Rattle.lucid_equations.specs.Rows.{row_at}
 use Rattle.lucid_equations.specs.declared.rows.Node.{Node}
 use Rattle.lucid_cert_rules.specs.Certificates.{PlainJudgment}
 use Rattle.lucid_show_outline.specs.declared.does.Does.{Does}
-use Rattle.lucid_show_outline.specs.declared.does.Does.TheVariants.{Searches}
+use Rattle.lucid_show_outline.specs.declared.does.Does.TheVariants.{Asks, Searches}
 use Rattle.lucid_show_outline.specs.Views.{View}
 use Rattle.lucid_show_outline.specs.Equations.{by_judgment, by_node, does, done, equation, told_uses}
 use Rattle.lucid_show_outline.specs.Laws.{EquationsAreWhole, UsesAreEarlier}
@@ -19,6 +19,7 @@ all_dropped P (suc n) (x ∷ xs) all = all_dropped P n xs all.1
 
 all_told : (P : ℕ → Type 0) (d : Does) (us : List ℕ) → AllByRecursion P us → AllByRecursion P (told_uses d us)
 unfolding told_uses
+all_told P Asks us all = tt
 all_told P (Searches p) us all = all_dropped P (length us - 1) us all
 all_told P _ us all = all
 

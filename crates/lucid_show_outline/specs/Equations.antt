@@ -61,8 +61,9 @@ does (Whenever a b) = Searches b
 does (Asa a b) = Searches b
 does (Upon a b) = Searches b
 
--- the uses whose own texts are told: of a search the last alone
+-- the uses whose own texts are told: of a search the last alone, and none of what asks, which is told by its name
 unfoldable pub told_uses : Does → List ℕ → List ℕ
+told_uses Asks us = []
 told_uses (Searches p) us = drop (length us - 1) us
 told_uses _ us = us
 

@@ -53,12 +53,13 @@ impl Does {
         }
     }
 
-    /// The uses whose own texts are told: of a search the last alone.
+    /// The uses whose own texts are told: of a search the last alone, and none of what asks, which is told by its name.
     #[tactic(auto, unfolding(crate::specs::Equations::told_uses))]
     pub(crate) fn told_uses(self, uses: &[u64]) -> &[u64]
         ensures { result.now ≡ told_uses self uses.now }
     {
         match self {
+            Does::Asks => &[],
             Does::Searches(_) => &uses[uses.len().saturating_sub(1)..],
             _ => uses,
         }
