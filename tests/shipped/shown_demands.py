@@ -1,7 +1,7 @@
 """The command that shows a demand, over real files and pipes. The outlines are written by hand, by its rules."""
 import os
 
-from harness import case, check, shown
+from harness import case, check, long_case, shown
 
 FIB = "f where\n  f = 0 fby g;\n  g = 1 fby f + g;\nend\n"
 FIB_AT_4 = """output at 4 is 3   = f at 4
@@ -133,6 +133,43 @@ end""")
 
 
 @case
+def lists_in_calls_are_shown(run):
+    run.source("""sort(l) where
+  sort(l) = if isnull tl(l) then l else merge(sort(odds(l)), sort(odds(tl(l)))) fi;
+  odds(l) = if isnull l then [] else if isnull tl(l) then l else hd(l) :: odds(tl(tl(l))) fi fi;
+  merge(x, y) = if isnull x then y else if isnull y then x else if hd(x) <= hd(y) then hd(x) :: merge(tl(x), y) else hd(y) :: merge(x, tl(y)) fi fi fi;
+  l = [% 2 1 %];
+end""")
+    both = "merge(sort(odds(l)), sort(odds(tl l))) at 0"
+    run.showing().lucid("p", "--at", "0").must(f"""output at 0 is [% 1 2 %]   = sort(l) at 0
+  sort(l) at 0 as call 1 is [% 1 2 %]   = isnull tl l at 0 is false, so {both}
+    l at 0 in call 1 is [% 2 1 %]   = l at 0
+      l at 0 is [% 2 1 %]   = [% 2 1 %]
+    {both} in call 1 as call 2 is [% 1 2 %]   = isnull x at 0 is false, so isnull y at 0 is false, so hd x at 0 <= hd y at 0 is false, so hd y at 0 :: merge(x, tl y) at 0
+      x at 0 in call 2 is [% 2 %]   = sort(odds(l)) at 0
+        sort(odds(l)) at 0 in call 1 as call 3 is [% 2 %]   = isnull tl l at 0 is true, so l at 0
+          l at 0 in call 3 is [% 2 %]   = odds(l) at 0
+            odds(l) at 0 in call 1 as call 4 is [% 2 %]   = isnull l at 0 is false, so isnull tl l at 0 is false, so hd l at 0 :: odds(tl tl l) at 0
+              l at 0 in call 4 is [% 2 1 %]   = l at 0
+                l at 0 in call 1 is [% 2 1 %]   (above)
+              odds(tl tl l) at 0 in call 4 as call 5 is [% %]   = isnull l at 0 is true, so []
+                l at 0 in call 5 is [% %]   = tl tl l at 0
+                  l at 0 in call 4 is [% 2 1 %]   (above)
+      y at 0 in call 2 is [% 1 %]   = sort(odds(tl l)) at 0
+        sort(odds(tl l)) at 0 in call 1 as call 6 is [% 1 %]   = isnull tl l at 0 is true, so l at 0
+          l at 0 in call 6 is [% 1 %]   = odds(tl l) at 0
+            odds(tl l) at 0 in call 1 as call 7 is [% 1 %]   = isnull l at 0 is false, so isnull tl l at 0 is true, so l at 0
+              l at 0 in call 7 is [% 1 %]   = tl l at 0
+                l at 0 in call 1 is [% 2 1 %]   (above)
+      merge(x, tl y) at 0 in call 2 as call 8 is [% 2 %]   = isnull x at 0 is false, so isnull y at 0 is true, so x at 0
+        x at 0 in call 8 is [% 2 %]   = x at 0
+          x at 0 in call 2 is [% 2 %]   (above)
+        y at 0 in call 8 is [% %]   = tl y at 0
+          y at 0 in call 2 is [% 1 %]   (above)
+""")
+
+
+@case
 def places_over_space_are_shown(run):
     run.source("u atspace 1 where u = start fby (left + 2 * u + succ u) div 4; left = 0 sby u; start = 0 sby (64 sby 0); end")
     run.showing().lucid("p", "--at", "1").must("""output at 1 is 32   = u at 1 space 1
@@ -212,6 +249,25 @@ def refusals_are_those_of_the_command(run):
         run.showing().lucid(*words).must("", status, told.report.decode())
     for words in ([], ["--names", "x,", "deep"], ["--as", "other", "deep"], ["--at", "x", "deep"], ["deep", "deep"], ["--count", "3", "deep"]):
         run.showing().lucid(*words).must("", 2, USAGE)
+
+
+@case
+def a_deep_demand_needs_little_stack(run):
+    run.source("x where x = 0 fby x + 1; end")
+    out = run.showing().lucid("p", "--at=20000", limits="ulimit -s 256").must().out.decode().splitlines()
+    check(len(out) == 2002 and out[-1] == ".. (lines left out: 18001)", shown(out[-1]))
+
+
+@long_case
+def a_demand_of_a_hundred_thousand_values_is_shown(run):
+    run.needs_a_plain_command()
+    run.source("a asa a eq 0")
+    run.write("f", "1\n" * 99_999 + "0\n")
+    words = ["p", "a=f", "--at=0", "--depth=200000", "--cells=1000000"]
+    out = run.showing().lucid(*words, limits="ulimit -v 204800").must().out.decode().splitlines()
+    check(len(out) == 100_001, shown(str(len(out))))
+    check(out[0] == "output at 0 is 0   = a eq 0 is false at 0 to 99998, true at 99999, so a at 99999", shown(out[0]))
+    check(out[-1] == "  a at 99999 is 0   (line 100000 of a)", shown(out[-1]))
 
 
 @case
