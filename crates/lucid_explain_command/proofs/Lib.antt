@@ -1,5 +1,4 @@
 pub mod Common
 pub mod Explaining
-pub mod Again
+pub mod ReadAgain
 pub mod Making
-pub mod Noting

@@ -1,5 +1,5 @@
 -- What is noted of lines as they are written: the first that is `error`.
-use Rattle.std.specs.Prelude.{◌≡◌, ℕ, ◌+◌, ◌==◌, nat_lt, ◌&&◌, if◌then◌else◌, min, Bool, true, false, List, codes, fold, slice_index, Option, Some, None}
+use Rattle.std.specs.Prelude.{◌≡◌, ℕ, ◌+◌, ◌==◌, nat_lt, ◌&&◌, if◌then◌else◌, min, Bool, true, false, List, codes, fold, slice_index, Option, Some, None, IfSome}
 use Rattle.lucid_explain_command.specs.declared.noted.Noted.{Noted}
 
 -- How many lines have ended; of the open line how many bytes it has, where these are the first of `error`; and the first line that was `error`,
@@ -38,5 +38,4 @@ note s b =
 
 -- This is noted of the bytes that were written, where these are told.
 abbrev pub Notes : (written : Option (List ℕ)) → Seen → Type 0
-Notes None seen = Unit {0}
-Notes (Some bytes) seen = seen ≡ fold note nothing_noted bytes
+Notes written seen = IfSome written (λ bytes. seen ≡ fold note nothing_noted bytes)

@@ -1,5 +1,6 @@
 //! A sink that notes the first line that is `error`.
 ghost use Rattle.std.specs.Prelude.{◌≡◌};
+ghost use Rattle.std.proofs.Props.{props};
 ghost use Rattle.lucid_explain_command.specs.Noting.{plain_noted, nothing_noted, Notes};
 
 use crate::noted::Noted;
@@ -10,7 +11,7 @@ use lucid_ports::{PortFault, Sink};
 pub struct Watched<K: Sink> {
     sink: K,
     noted: Noted,
-    ghost notes: { Notes (K.written sink) (plain_noted noted) },
+    ghost notes: { Notes (K.written sink) (plain_noted noted) } by { Prim.hlevel props },
 }
 
 impl<K: Sink> Watched<K> {

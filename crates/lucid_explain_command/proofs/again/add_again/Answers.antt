@@ -1,7 +1,7 @@
 use Rattle.lucid_explain_command.proofs.Common.{map, on_ok_weaker}
 use Rattle.std.specs.Prelude.{option_map}
 use Rattle.lucid_explain_command.specs.Errors.{plain_file}
-use Rattle.lucid_explain_command.proofs.Again.{adds_one}
+use Rattle.lucid_explain_command.proofs.ReadAgain.{adds_one}
 use Rattle.lucid_explain_command.proofs.again.add_again.Goals as goal
 
 pub returns : goal.returns

@@ -1,7 +1,7 @@
 use Rattle.std.specs.Prelude.{option_map}
 use Rattle.lucid_explain_command.proofs.Common.{Text, map, subst, on_ok_weaker}
 use Rattle.lucid_explain_command.specs.Errors.{plain_input, IsFound}
-use Rattle.lucid_explain_command.proofs.Again.{adds_one}
+use Rattle.lucid_explain_command.proofs.ReadAgain.{adds_one}
 use Rattle.lucid_explain_command.proofs.again.add_word.Goals as goal
 
 pub returns : goal.returns

@@ -1,7 +1,7 @@
 use Rattle.lucid_explain_command.proofs.Common.{List, [], ◌∷◌, ◌++◌, map, ap, subst, Text, Given, plain_given, given_file}
 use Rattle.lucid_ports.specs.declared.files.MemoryFile.{MemoryFile}
 use Rattle.lucid_explain_command.specs.Errors.{plain_file, as_named, Adds}
-use Rattle.lucid_explain_command.proofs.Again.{adds_both, adds_all}
+use Rattle.lucid_explain_command.proofs.ReadAgain.{adds_both, adds_all}
 use Rattle.lucid_explain_command.proofs.again.files_again.Goals as goal
 
 pub returns : goal.returns

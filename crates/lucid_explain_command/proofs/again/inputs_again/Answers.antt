@@ -1,7 +1,7 @@
 use Rattle.lucid_explain_command.proofs.Common.{ℕ, ◌+◌, ◌≡◌, List, [], ◌∷◌, ◌++◌, map, take, sym, ap, ◌∙◌, refl, subst, Text, Given, plain_given}
 use Rattle.std.proofs.lemmas.List.{map_more, take_all}
 use Rattle.lucid_explain_command.specs.Errors.{plain_input, Adds}
-use Rattle.lucid_explain_command.proofs.Again.{adds_none, adds_both, adds_of, adds_all}
+use Rattle.lucid_explain_command.proofs.ReadAgain.{adds_none, adds_both, adds_of, adds_all}
 use Rattle.lucid_explain_command.proofs.again.inputs_again.Goals as goal
 
 pub loop-word-init : goal.loop-word-init
@@ -17,7 +17,8 @@ loop-word-preserved g c =
     let i = c.loop-word.word-index in
     let front = map plain_given (take i given) in
     let word = c.word-item.result in
-    let whole : map plain_given (take (i + 1) given) ≡ front ++ plain_given word ∷ [] = map_more plain_given given i word c.loop-word-test.true in
+    let whole : map plain_given (take (i + 1) given) ≡ front ++ plain_given word ∷ [] = map_more plain_given given i word c.loop-word-test.true
+    ∙ ap (λ (w : Given). front ++ plain_given w ∷ []) (sym c.word-item.is) in
     let after = map plain_input c.add_word.new.inputs.items in
     adds_of files (front ++ plain_given word ∷ []) (map plain_given (take (i + 1) given)) [] after (sym whole)
     (adds_both files front (plain_given word ∷ []) [] (map plain_input c.loop-word.inputs.items) after c.loop-word.invariant c.in_ok-add_word.ensures)

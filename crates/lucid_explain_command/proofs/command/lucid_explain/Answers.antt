@@ -4,6 +4,7 @@ use Rattle.lucid_explain_command.proofs.Common.{told}
 use Rattle.lucid_ports.specs.Sink.{sink_bytes, sink_faults, sink_late}
 use Rattle.lucid_explain_command.specs.declared.behind.Behind.{Behind}
 use Rattle.lucid_explain_command.specs.Behind.{behind_of}
+use Rattle.lucid_explain_command.specs.Noting.{Seen, Notes}
 use Rattle.lucid_explain_command.specs.Explained.{ReportsBehind}
 use Rattle.lucid_explain_command.proofs.Explaining.{begun_empty, reported_as}
 use Rattle.lucid_explain_command.proofs.command.lucid_explain.Goals as goal
@@ -15,6 +16,7 @@ returns g c =
     let files = g.F.Outlook.files c.args.outlook.now in
     let terminal = g.F.Outlook.terminal c.args.outlook.now in
     let P : Behind → Type 0 = λ b. ReportsBehind files terminal (map string_bytes c.args.words.now) b halfway after in
+    let N : Seen → Type 0 = λ s. Notes (g.K.Sink.written c.lucid-status.new.out.sink) s in
     record {
       line = sink_bytes c.lucid-status.new.report;
       faults = sink_faults c.lucid-status.new.report;
@@ -24,7 +26,7 @@ returns g c =
       clauses = begun_empty _ (sink_bytes c.make-line.result) (sink_faults c.make-line.result) (sink_late c.make-line.result) _ _
           c.make-line.ensures.bytes c.make-line.ensures.faults c.make-line.ensures.late c.lucid-status.ensures;
       prompts = c.prompt_terminal.ensures;
-      noted = c.noted.ensures.notes;
+      noted = subst N c.noted.ensures.value c.noted.ensures.notes;
       reports = reported_as _ _ c.written.result.now _ _ _ c.written.ensures c.report_call.ensures;
       more = subst P (c.behind_of-behind.ensures ∙ ap (behind_of c.lucid-status.result) c.noted.ensures.value) c.report_behind.ensures;
     }
