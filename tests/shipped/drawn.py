@@ -151,18 +151,18 @@ def a_picture_has_a_box_for_each_value_and_an_arrow_for_each_need(run):
 
 
 @case
-def a_picture_is_drawn_by_another_program(run):
+def each_picture_is_drawn_by_another_program(run):
     drawing = shutil.which("rsvg-convert") or shutil.which("inkscape") or shutil.which("convert")
     if drawing is None:
         return
-    source, time, inputs = SHOWN["factorial"]
-    words, _ = demanded(run, source, time, inputs)
-    run.write("picture.svg", run.showing().lucid("--as", "svg", "--at", str(time), *words).must().out.decode())
-    to = run.path("picture.png")
-    how = {"rsvg-convert": ["-o", to, run.path("picture.svg")], "inkscape": ["-o", to, run.path("picture.svg")], "convert": [run.path("picture.svg"), to]}
-    subprocess.run([drawing, *how[drawing.rsplit("/", 1)[1]]], check=True, capture_output=True, timeout=60)
-    with open(to, "rb") as it:
-        check(it.read(8) == b"\x89PNG\r\n\x1a\n", "no picture was drawn")
+    at, to = run.path("picture.svg"), run.path("picture.png")
+    how = {"rsvg-convert": ["-o", to, at], "inkscape": ["-o", to, at], "convert": [at, to]}[drawing.rsplit("/", 1)[1]]
+    for name, (source, time, inputs) in SHOWN.items():
+        words, _ = demanded(run, source, time, inputs)
+        run.write("picture.svg", run.showing().lucid("--as", "svg", "--at", str(time), *words).must().out.decode())
+        subprocess.run([drawing, *how], check=True, capture_output=True, timeout=60)
+        with open(to, "rb") as it:
+            check(it.read(8) == b"\x89PNG\r\n\x1a\n", f"{name}: no picture was drawn")
 
 
 @case
