@@ -4,14 +4,14 @@ use Rattle.std.proofs.Common.{Bool}
 use Rattle.std.proofs.lemmas.Bool.{leb-false}
 use Rattle.lucid_tree.specs.declared.form.Form.{Form}
 use Rattle.lucid_tree.specs.declared.form.Form.TheVariants as forms
-use Rattle.lucid_steps.specs.declared.answer.Answer.{Answer}
-use Rattle.lucid_steps.specs.declared.step.Place.{Place}
-use Rattle.lucid_steps.specs.declared.step.Given.TheVariants.{Truth}
-use Rattle.lucid_steps.specs.declared.step.Step.{Step}
-use Rattle.lucid_steps.specs.declared.step.Step.TheVariants as step
-use Rattle.lucid_steps.specs.Steps.{IsPoint, part_at, found, step_after}
-use Rattle.lucid_steps.proofs.Told.{by_its_answer, to_its_point}
-use Rattle.lucid_steps.proofs.Looks.{of_both}
+use Rattle.lucid_equations.specs.declared.answer.Answer.{Answer}
+use Rattle.lucid_equations.specs.declared.step.Place.{Place}
+use Rattle.lucid_equations.specs.declared.step.Given.TheVariants.{Truth}
+use Rattle.lucid_equations.specs.declared.step.Step.{Step}
+use Rattle.lucid_equations.specs.declared.step.Step.TheVariants as step
+use Rattle.lucid_equations.specs.Steps.{IsPoint, part_at, found, step_after}
+use Rattle.lucid_equations.proofs.Told.{by_its_answer, to_its_point}
+use Rattle.lucid_equations.proofs.Looks.{of_both}
 use Rattle.lucid_cert_rules.specs.Told.{IsDecided, EndsSearch, StepInside}
 
 -- a form that looks at its point goes on with no search

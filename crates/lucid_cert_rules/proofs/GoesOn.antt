@@ -5,14 +5,14 @@ use Rattle.std.specs.Prelude.{if◌then◌else◌}
 use Rattle.lucid_tree.specs.declared.form.Form.{Form}
 use Rattle.lucid_tree.specs.declared.form.Form.TheVariants as forms
 use Rattle.lucid_tree.specs.Rows.{nothing}
-use Rattle.lucid_steps.specs.declared.answer.Answer.{Answer}
-use Rattle.lucid_steps.specs.declared.step.Place.{Place}
-use Rattle.lucid_steps.specs.declared.step.Given.TheVariants.{Truth}
-use Rattle.lucid_steps.specs.declared.step.Step.{Step}
-use Rattle.lucid_steps.specs.declared.step.Step.TheVariants as step
-use Rattle.lucid_steps.specs.Steps.{answer_of, part_at, judged, given_value, one_more, found, step_after, step_plan}
-use Rattle.lucid_steps.proofs.Told.{test_told, place_told, truth_told}
-use Rattle.lucid_steps.proofs.Plans.{found_is}
+use Rattle.lucid_equations.specs.declared.answer.Answer.{Answer}
+use Rattle.lucid_equations.specs.declared.step.Place.{Place}
+use Rattle.lucid_equations.specs.declared.step.Given.TheVariants.{Truth}
+use Rattle.lucid_equations.specs.declared.step.Step.{Step}
+use Rattle.lucid_equations.specs.declared.step.Step.TheVariants as step
+use Rattle.lucid_equations.specs.Steps.{answer_of, part_at, judged, given_value, one_more, found, step_after, step_plan}
+use Rattle.lucid_equations.proofs.Told.{test_told, place_told, truth_told}
+use Rattle.lucid_equations.proofs.Plans.{found_is}
 use Rattle.lucid_cert_rules.specs.RestPlans.{by_then}
 use Rattle.lucid_cert_rules.specs.Told.{at_limit, looked_from, told_plan}
 use Rattle.lucid_cert_rules.specs.declared.rest.Look.{Look}

@@ -3,11 +3,11 @@ use Rattle.std.specs.Prelude.{ℕ, ◌<◌, ◌≤◌}
 use Rattle.lucid_tree.specs.declared.form.Form.{Form}
 use Rattle.lucid_tree.specs.declared.form.Form.TheVariants as forms
 use Rattle.lucid_tree.specs.Rows.{Plan, last}
-use Rattle.lucid_steps.specs.declared.answer.Answer.{Answer}
-use Rattle.lucid_steps.specs.declared.step.Place.{Place}
-use Rattle.lucid_steps.specs.declared.step.Step.{Step}
-use Rattle.lucid_steps.specs.declared.step.Step.TheVariants as step
-use Rattle.lucid_steps.specs.Steps.{step_after, step_plan}
+use Rattle.lucid_equations.specs.declared.answer.Answer.{Answer}
+use Rattle.lucid_equations.specs.declared.step.Place.{Place}
+use Rattle.lucid_equations.specs.declared.step.Step.{Step}
+use Rattle.lucid_equations.specs.declared.step.Step.TheVariants as step
+use Rattle.lucid_equations.specs.Steps.{step_after, step_plan}
 use Rattle.lucid_cert_rules.specs.declared.rest.Look.{Look}
 
 -- where a form stands that looked so, at its own time and with so many true values before

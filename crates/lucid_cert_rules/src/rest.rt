@@ -6,7 +6,7 @@ ghost use Rattle.lucid_ops.specs.Arity.{arity};
 ghost use Rattle.lucid_tree.specs.declared.form.Form.TheVariants as forms;
 ghost use Rattle.lucid_tree.specs.Tree.{Head};
 ghost use Rattle.lucid_tree.specs.Rows.{gives, gives_part, count_true, find_true, last, plan};
-ghost use Rattle.lucid_steps.specs.Steps.{given_value, step_after, step_plan};
+ghost use Rattle.lucid_equations.specs.Steps.{given_value, step_after, step_plan};
 ghost use Rattle.lucid_equations.specs.Programs.{table_of};
 ghost use Rattle.lucid_equations.specs.Ranges.{NodeNames, sizes};
 ghost use Rattle.lucid_equations.specs.Rows.{parts};
@@ -16,9 +16,8 @@ ghost use Rattle.lucid_cert_rules.specs.Told.{EndsSearch, IsDecided, StepInside,
 ghost use Rattle.lucid_cert_rules.specs.declared.rest.Then.TheVariants as then;
 ghost use Rattle.lucid_cert_rules.specs.declared.rest.Rest.TheVariants as rest;
 
-use lucid_equations::{Node, Program};
+use lucid_equations::{Answer, Given, Node, Place, Program, Step, after, judged};
 use lucid_ops::Op;
-use lucid_steps::{Answer, Given, Place, Step, after, judged};
 use lucid_tree::{Form, LAST};
 use lucid_value::Value;
 

@@ -8,18 +8,18 @@ use Rattle.lucid_tree.specs.Tree.{stream}
 use Rattle.lucid_tree.specs.Rows.{look, single, nothing, only_truth}
 use Rattle.lucid_tree.specs.Rests.{and_then, rest_at}
 use Rattle.lucid_tree.proofs.Ways.{leads-maps}
-use Rattle.lucid_steps.specs.declared.answer.Answer.{Answer}
-use Rattle.lucid_steps.specs.declared.step.Place.{Place}
-use Rattle.lucid_steps.specs.declared.step.PartAt.{PartAt}
-use Rattle.lucid_steps.specs.declared.step.Given.{Given}
-use Rattle.lucid_steps.specs.declared.step.Given.TheVariants.{Truth, End, Fault}
-use Rattle.lucid_steps.specs.declared.step.Step.{Step}
-use Rattle.lucid_steps.specs.declared.step.Step.TheVariants as step
-use Rattle.lucid_steps.specs.declared.step.Start.{Start}
-use Rattle.lucid_steps.specs.declared.step.Start.TheVariants as start
-use Rattle.lucid_steps.specs.Steps.{answer_of, judged, given_value, start_of, step_after, step_plan, start_plan, least_of}
-use Rattle.lucid_steps.proofs.Told.{truth_told}
-use Rattle.lucid_steps.proofs.Plans.{steps_are_of_plans}
+use Rattle.lucid_equations.specs.declared.answer.Answer.{Answer}
+use Rattle.lucid_equations.specs.declared.step.Place.{Place}
+use Rattle.lucid_equations.specs.declared.step.PartAt.{PartAt}
+use Rattle.lucid_equations.specs.declared.step.Given.{Given}
+use Rattle.lucid_equations.specs.declared.step.Given.TheVariants.{Truth, End, Fault}
+use Rattle.lucid_equations.specs.declared.step.Step.{Step}
+use Rattle.lucid_equations.specs.declared.step.Step.TheVariants as step
+use Rattle.lucid_equations.specs.declared.step.Start.{Start}
+use Rattle.lucid_equations.specs.declared.step.Start.TheVariants as start
+use Rattle.lucid_equations.specs.Steps.{answer_of, judged, given_value, start_of, step_after, step_plan, start_plan, least_of}
+use Rattle.lucid_equations.proofs.Told.{truth_told}
+use Rattle.lucid_equations.proofs.Plans.{steps_are_of_plans}
 use Rattle.lucid_equations.specs.Moving.{Onward}
 use Rattle.lucid_demand_steps.specs.Parts.{moved_by}
 use Rattle.lucid_demand_steps.specs.Decisions.{RowHas, ComesTo}

@@ -6,15 +6,15 @@ use Rattle.lucid_tree.specs.declared.form.Form.{Form}
 use Rattle.lucid_tree.specs.declared.form.Form.TheVariants as forms
 use Rattle.lucid_tree.specs.Forms.{part_count}
 use Rattle.lucid_tree.specs.Tree.{stream}
-use Rattle.lucid_steps.specs.declared.step.PartAt.{PartAt}
-use Rattle.lucid_steps.specs.declared.step.Given.TheVariants.{Truth, Fault}
-use Rattle.lucid_steps.specs.declared.step.Step.{Step}
-use Rattle.lucid_steps.specs.declared.step.Step.TheVariants as step
-use Rattle.lucid_steps.specs.declared.step.Start.{Start}
-use Rattle.lucid_steps.specs.declared.step.Start.TheVariants as start
-use Rattle.lucid_steps.specs.Steps.{answer_of, part_at, by_truth, start_of, found, step_after, least_of}
-use Rattle.lucid_steps.proofs.Told.{by_its_truth, by_its_place}
-use Rattle.lucid_steps.proofs.Looks.{of_both, of_each}
+use Rattle.lucid_equations.specs.declared.step.PartAt.{PartAt}
+use Rattle.lucid_equations.specs.declared.step.Given.TheVariants.{Truth, Fault}
+use Rattle.lucid_equations.specs.declared.step.Step.{Step}
+use Rattle.lucid_equations.specs.declared.step.Step.TheVariants as step
+use Rattle.lucid_equations.specs.declared.step.Start.{Start}
+use Rattle.lucid_equations.specs.declared.step.Start.TheVariants as start
+use Rattle.lucid_equations.specs.Steps.{answer_of, part_at, by_truth, start_of, found, step_after, least_of}
+use Rattle.lucid_equations.proofs.Told.{by_its_truth, by_its_place}
+use Rattle.lucid_equations.proofs.Looks.{of_both, of_each}
 use Rattle.lucid_equations.specs.Moving.{Onward, onward}
 use Rattle.lucid_demand_steps.specs.Parts.{at_place}
 use Rattle.lucid_demand_steps.specs.Taken.{place_of, IsLook, SearchesOn, Fits}

@@ -3,10 +3,10 @@ use Rattle.lucid_demand_steps.proofs.DecidingCommon.{ℕ, suc, List, Option, Non
 use Rattle.std.proofs.Common.{◌≡◌, Bool, Some}
 use Rattle.lucid_tree.specs.declared.form.Form.TheVariants as forms
 use Rattle.lucid_tree.specs.Tree.{stream}
-use Rattle.lucid_steps.specs.declared.step.Given.TheVariants as given
-use Rattle.lucid_steps.specs.declared.step.Step.TheVariants as step
-use Rattle.lucid_steps.specs.Steps.{part_at, moved_step}
-use Rattle.lucid_steps.proofs.Looks.{of_both, of_each}
+use Rattle.lucid_equations.specs.declared.step.Given.TheVariants as given
+use Rattle.lucid_equations.specs.declared.step.Step.TheVariants as step
+use Rattle.lucid_equations.specs.Steps.{part_at, moved_step}
+use Rattle.lucid_equations.proofs.Looks.{of_both, of_each}
 use Rattle.lucid_equations.specs.Moving.{Onward, onward}
 use Rattle.lucid_demand_steps.specs.Taken.{place_of, MayTake, IsFormRow}
 use Rattle.lucid_demand_steps.specs.declared.decision.Decision.TheVariants.{Fault}

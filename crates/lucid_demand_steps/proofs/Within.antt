@@ -4,14 +4,14 @@ use Rattle.std.proofs.Common.{◌≡◌, ◌<◌, ◌≤◌}
 use Rattle.lucid_tree.specs.declared.form.Form.{Form}
 use Rattle.lucid_tree.specs.Forms.{part_count}
 use Rattle.lucid_tree.proofs.FormRows.{few}
-use Rattle.lucid_steps.specs.declared.answer.Answer.{Answer}
-use Rattle.lucid_steps.specs.declared.step.Place.{Place}
-use Rattle.lucid_steps.specs.declared.step.PartAt.{PartAt}
-use Rattle.lucid_steps.specs.declared.step.Step.{Step}
-use Rattle.lucid_steps.specs.declared.step.Step.TheVariants as step
-use Rattle.lucid_steps.specs.declared.step.Start.TheVariants as start
-use Rattle.lucid_steps.specs.Steps.{IsPoint, start_of, step_after, StepLooks, StartLooks}
-use Rattle.lucid_steps.proofs.Looks.{start_looks, after_looks}
+use Rattle.lucid_equations.specs.declared.answer.Answer.{Answer}
+use Rattle.lucid_equations.specs.declared.step.Place.{Place}
+use Rattle.lucid_equations.specs.declared.step.PartAt.{PartAt}
+use Rattle.lucid_equations.specs.declared.step.Step.{Step}
+use Rattle.lucid_equations.specs.declared.step.Step.TheVariants as step
+use Rattle.lucid_equations.specs.declared.step.Start.TheVariants as start
+use Rattle.lucid_equations.specs.Steps.{IsPoint, start_of, step_after, StepLooks, StartLooks}
+use Rattle.lucid_equations.proofs.Looks.{start_looks, after_looks}
 
 pub few_parts : (n : ℕ) (f : Form) → n ≡ part_count f → n ≤ 3
 few_parts n f e = omega (arith, e, (few f).1)

@@ -6,13 +6,13 @@ use Rattle.lucid_tree.specs.Forms.{part_count}
 use Rattle.lucid_tree.specs.Tree.{stream}
 use Rattle.lucid_tree.specs.Rows.{Plan}
 use Rattle.lucid_tree.specs.Rests.{LeadsTo, rest_at, CanStandAt}
-use Rattle.lucid_steps.specs.declared.step.Place.{Place}
-use Rattle.lucid_steps.specs.declared.step.PartAt.{PartAt}
-use Rattle.lucid_steps.specs.declared.step.Given.{Given}
-use Rattle.lucid_steps.specs.declared.step.Given.TheVariants as given
-use Rattle.lucid_steps.specs.declared.step.Step.{Step}
-use Rattle.lucid_steps.specs.declared.step.Step.TheVariants as step
-use Rattle.lucid_steps.specs.Steps.{step_plan}
+use Rattle.lucid_equations.specs.declared.step.Place.{Place}
+use Rattle.lucid_equations.specs.declared.step.PartAt.{PartAt}
+use Rattle.lucid_equations.specs.declared.step.Given.{Given}
+use Rattle.lucid_equations.specs.declared.step.Given.TheVariants as given
+use Rattle.lucid_equations.specs.declared.step.Step.{Step}
+use Rattle.lucid_equations.specs.declared.step.Step.TheVariants as step
+use Rattle.lucid_equations.specs.Steps.{step_plan}
 use Rattle.lucid_tags.specs.Contexts.{Context}
 use Rattle.lucid_tags.specs.Known.{IsKnown}
 use Rattle.lucid_tasks.specs.declared.Task.{Task}

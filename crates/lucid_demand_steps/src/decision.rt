@@ -4,7 +4,7 @@ ghost use Rattle.lucid_ops.specs.Arity.{arity};
 ghost use Rattle.lucid_value.specs.View.{plain};
 ghost use Rattle.lucid_tree.specs.Forms.{part_count};
 ghost use Rattle.lucid_tree.specs.Rows.{last};
-ghost use Rattle.lucid_steps.specs.Steps.{StepLooks};
+ghost use Rattle.lucid_equations.specs.Steps.{StepLooks};
 ghost use Rattle.lucid_tags.specs.Contexts.{Context};
 ghost use Rattle.lucid_tasks.specs.Rows.{TaskRow, IsRow, row_at, got_of};
 ghost use Rattle.lucid_equations.specs.Programs.{table_of};
@@ -16,9 +16,10 @@ ghost use Rattle.lucid_demand_steps.specs.Taken.{settled};
 ghost use Rattle.lucid_equations.specs.declared.rows.Node.TheVariants as node;
 
 use crate::moving::at_point;
-use lucid_equations::{Node, Program};
+use lucid_equations::{
+    Answer, Given, Node, PartAt, Place, Program, Start, Step, after, begin, judged,
+};
 use lucid_ops::Op;
-use lucid_steps::{Answer, Given, PartAt, Place, Start, Step, after, begin, judged};
 use lucid_tasks::{Task, Tasks};
 use lucid_tree::Form;
 use lucid_value::Value;

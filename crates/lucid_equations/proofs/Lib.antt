@@ -19,3 +19,6 @@ pub mod Formed
 pub mod ByStep
 pub mod VisitsGrow
 mod Names
+pub mod Told
+pub mod Plans
+pub mod Looks

@@ -15,3 +15,4 @@ pub mod RowParts
 pub mod NumberAims
 pub mod Looks
 pub mod Programs
+pub mod Steps

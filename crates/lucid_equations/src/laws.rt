@@ -8,6 +8,7 @@ ghost use Rattle.lucid_equations.specs.Rows.{MadeIsRead, ReadIsMade};
 ghost use Rattle.lucid_equations.specs.RowParts.{RowsAreTheirNodes, PartsAreLower, PartsAreTheirNodes, PartsReadTheirNodes, PartsVisitTheirNodes};
 ghost use Rattle.lucid_equations.specs.NumberAims.{NodesGoByNumbers, DatonsGoByNumbers, AimsLeadToNodes};
 ghost use Rattle.lucid_equations.specs.Looks.{PartsNeverLose, PartsNeverDiffer, NextLooksAreVisited, NextLooksAreVisitedFromSomeOn, NeedsAreOfTheWay};
+ghost use Rattle.lucid_equations.specs.Steps.{StepsAreOfPlans};
 
 /// A defined approximation is the same at each greater limit, and so at most one value is meant.
 pub fn approximations_stay()
@@ -147,4 +148,10 @@ pub fn aims_go_by_numbers()
 pub fn forms_are_read_as_made()
     ensures read { MadeIsRead }
     ensures made { ReadIsMade }
+{}
+
+/// The steps of a form are those of its plan: where its search stands, what is left of the plan is the form's first step, and what is done
+/// by the value of its look.
+pub fn steps_are_of_plans()
+    ensures { StepsAreOfPlans }
 {}

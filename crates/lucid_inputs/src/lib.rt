@@ -1,5 +1,5 @@
-//! Inputs whose elements are read on demand: an element is that of its line, a line is consumed through its line end and
-//! not past it, and no line is consumed before it is asked for.
+//! Inputs whose elements are read on demand. An element is that of its line. A line is consumed through its line end and not past it, and
+//! none before it is asked for.
 #![tactic(auto)]
 
 mod fault;

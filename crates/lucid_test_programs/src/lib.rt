@@ -1,6 +1,5 @@
-//! For tests: worked programs, each of them once, with what they mean and what they cost, all of it worked out by hand from the rules of the
-//! forms; and the value of a program by plain recursion on its tree, with which every other evaluator is compared: slow on purpose, it keeps
-//! nothing.
+//! For tests: worked programs, each of them once, with what they mean and what they cost, worked out by hand from the rules of the forms.
+//! And the value of a program by plain recursion on its tree, with which every other evaluator is compared: slow on purpose, it keeps nothing.
 #![tactic(auto)]
 
 pub use crate::contexts::IN_CONTEXTS;

@@ -1,6 +1,6 @@
 use Rattle.lucid_cert_rules.proofs.FollowingCommon.{◌+◌, ◌∙◌, ap, refl, arith}
 use Rattle.std.proofs.Common.{true, false}
-use Rattle.lucid_steps.specs.declared.step.Step.TheVariants.{On}
+use Rattle.lucid_equations.specs.declared.step.Step.TheVariants.{On}
 use Rattle.lucid_cert_rules.specs.RestPlans.{rest_plan}
 use Rattle.lucid_cert_rules.proofs.GoesOn.{counts_step, counts_end}
 use Rattle.lucid_cert_rules.proofs.Ending.{upon_ends, upon_inside}

@@ -1,6 +1,6 @@
 use Rattle.lucid_cert_rules.proofs.FollowingCommon.{sym, ap, ◌∙◌, subst}
-use Rattle.lucid_steps.specs.declared.step.Place.{Place}
-use Rattle.lucid_steps.specs.Steps.{step_after, step_plan}
+use Rattle.lucid_equations.specs.declared.step.Place.{Place}
+use Rattle.lucid_equations.specs.Steps.{step_after, step_plan}
 use Rattle.lucid_cert_rules.specs.Told.{StepInside, looked_from}
 use Rattle.lucid_cert_rules.proofs.Ending.{decided_ends}
 use Rattle.lucid_cert_rules.proofs.rest.Look.decide.Goals as goal

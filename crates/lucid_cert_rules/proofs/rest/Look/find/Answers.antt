@@ -1,7 +1,7 @@
 use Rattle.lucid_cert_rules.proofs.FollowingCommon.{◌+◌, ◌-◌, ◌<◌, ◌≤◌, ◌∙◌, ap, sym, subst, refl, arith, last}
 use Rattle.std.proofs.Common.{true, false}
-use Rattle.lucid_steps.specs.declared.step.Place.{Place}
-use Rattle.lucid_steps.specs.declared.step.Step.TheVariants.{On}
+use Rattle.lucid_equations.specs.declared.step.Place.{Place}
+use Rattle.lucid_equations.specs.declared.step.Step.TheVariants.{On}
 use Rattle.lucid_cert_rules.specs.RestPlans.{rest_plan}
 use Rattle.lucid_cert_rules.proofs.GoesOn.{finds_on, finds_end}
 use Rattle.lucid_cert_rules.proofs.Ending.{whenever_ends, wants_more, whenever_inside}

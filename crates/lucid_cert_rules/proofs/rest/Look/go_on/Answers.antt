@@ -1,7 +1,7 @@
 use Rattle.lucid_cert_rules.proofs.FollowingCommon.{◌≡◌, ◌+◌, [], ◌∷◌, ◌++◌, ap, ◌∙◌, subst, arith, gives, Then}
 use Rattle.lucid_value.specs.View.{plain}
-use Rattle.lucid_steps.specs.declared.step.Given.{Given}
-use Rattle.lucid_steps.specs.Steps.{given_value}
+use Rattle.lucid_equations.specs.declared.step.Given.{Given}
+use Rattle.lucid_equations.specs.Steps.{given_value}
 use Rattle.lucid_cert_rules.specs.RestPlans.{rest_plan, IsAfter}
 use Rattle.lucid_cert_rules.specs.Told.{looked_from}
 use Rattle.lucid_cert_rules.specs.declared.rest.Then.TheVariants as then

@@ -1,6 +1,6 @@
 use Rattle.lucid_demand_steps.proofs.DecidingCommon.{sym, ap, ◌∙◌, subst, arith, plain_row}
 use Rattle.std.proofs.Common.{length}
-use Rattle.lucid_steps.specs.Steps.{judged}
+use Rattle.lucid_equations.specs.Steps.{judged}
 use Rattle.lucid_demand_steps.specs.Justified.{Justified}
 use Rattle.lucid_demand_steps.specs.Taken.{settled}
 use Rattle.lucid_demand_steps.proofs.DecidingTaking.{has_part, asks_part, judges_part, asks_judged, gives_it, looks_on, has_nothing}

@@ -1,7 +1,7 @@
 //! What a part's value tells a form.
 ghost use Rattle.std.specs.Prelude.{◌≡◌};
 ghost use Rattle.lucid_value.specs.View.{plain};
-ghost use Rattle.lucid_steps.specs.Steps.{answer_of, IsPoint};
+ghost use Rattle.lucid_equations.specs.Steps.{answer_of, IsPoint};
 
 use lucid_tree::LAST;
 use lucid_value::Value;

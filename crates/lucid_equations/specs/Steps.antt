@@ -7,16 +7,16 @@ use Rattle.lucid_tree.specs.declared.form.Form.TheVariants as forms
 use Rattle.lucid_tree.specs.Tree.{stream}
 use Rattle.lucid_tree.specs.Rows.{Plan, gives, nothing, last, look, gives_part, only_truth}
 use Rattle.lucid_tree.specs.Rests.{rest_at}
-use Rattle.lucid_steps.specs.declared.answer.Answer.{Answer}
-use Rattle.lucid_steps.specs.declared.answer.Answer.TheVariants.{Holds, At, Ended, Other}
-use Rattle.lucid_steps.specs.declared.step.Place.{Place}
-use Rattle.lucid_steps.specs.declared.step.PartAt.{PartAt}
-use Rattle.lucid_steps.specs.declared.step.Given.{Given}
-use Rattle.lucid_steps.specs.declared.step.Given.TheVariants.{Truth, End, Fault}
-use Rattle.lucid_steps.specs.declared.step.Step.{Step}
-use Rattle.lucid_steps.specs.declared.step.Step.TheVariants as step
-use Rattle.lucid_steps.specs.declared.step.Start.{Start}
-use Rattle.lucid_steps.specs.declared.step.Start.TheVariants as start
+use Rattle.lucid_equations.specs.declared.answer.Answer.{Answer}
+use Rattle.lucid_equations.specs.declared.answer.Answer.TheVariants.{Holds, At, Ended, Other}
+use Rattle.lucid_equations.specs.declared.step.Place.{Place}
+use Rattle.lucid_equations.specs.declared.step.PartAt.{PartAt}
+use Rattle.lucid_equations.specs.declared.step.Given.{Given}
+use Rattle.lucid_equations.specs.declared.step.Given.TheVariants.{Truth, End, Fault}
+use Rattle.lucid_equations.specs.declared.step.Step.{Step}
+use Rattle.lucid_equations.specs.declared.step.Step.TheVariants as step
+use Rattle.lucid_equations.specs.declared.step.Start.{Start}
+use Rattle.lucid_equations.specs.declared.step.Start.TheVariants as start
 
 -- what a part's value tells: a truth, a time or a space, the end of data, or any other value
 abbrev pub answer_of : PlainValue → Answer

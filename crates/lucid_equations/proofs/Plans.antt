@@ -7,13 +7,13 @@ use Rattle.lucid_tree.specs.declared.form.Form.TheVariants as forms
 use Rattle.lucid_tree.specs.Tree.{stream}
 use Rattle.lucid_tree.specs.Rows.{Plan, gives, nothing, look, gives_part, by_test, by_place, only_truth, at_zero, find_true, count_true, last}
 use Rattle.lucid_tree.specs.Rests.{rest_at}
-use Rattle.lucid_steps.specs.declared.step.Place.{Place}
-use Rattle.lucid_steps.specs.declared.step.Given.TheVariants.{Truth, Fault}
-use Rattle.lucid_steps.specs.declared.step.Step.{Step}
-use Rattle.lucid_steps.specs.declared.step.Step.TheVariants as step
-use Rattle.lucid_steps.specs.declared.step.Start.TheVariants as start
-use Rattle.lucid_steps.specs.Steps.{answer_of, part_at, by_truth, from_zero, below_last, searched, counted, start_of, found, step_after, step_plan, start_plan, StepsAreOfPlans}
-use Rattle.lucid_steps.proofs.Told.{look_alike, test_told, place_told}
+use Rattle.lucid_equations.specs.declared.step.Place.{Place}
+use Rattle.lucid_equations.specs.declared.step.Given.TheVariants.{Truth, Fault}
+use Rattle.lucid_equations.specs.declared.step.Step.{Step}
+use Rattle.lucid_equations.specs.declared.step.Step.TheVariants as step
+use Rattle.lucid_equations.specs.declared.step.Start.TheVariants as start
+use Rattle.lucid_equations.specs.Steps.{answer_of, part_at, by_truth, from_zero, below_last, searched, counted, start_of, found, step_after, step_plan, start_plan, StepsAreOfPlans}
+use Rattle.lucid_equations.proofs.Told.{look_alike, test_told, place_told}
 
 -- so many are left, or none
 some_left : (a b : ℕ) → nat_lt a b ≡ true → b - a ≡ suc (b - suc a)

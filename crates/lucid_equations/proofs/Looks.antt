@@ -5,14 +5,14 @@ use Rattle.lucid_tree.specs.declared.form.Form.{Form}
 use Rattle.lucid_tree.specs.declared.form.Form.TheVariants as forms
 use Rattle.lucid_tree.specs.Forms.{part_count}
 use Rattle.lucid_tree.specs.Rows.{last}
-use Rattle.lucid_steps.specs.declared.answer.Answer.{Answer}
-use Rattle.lucid_steps.specs.declared.step.Place.{Place}
-use Rattle.lucid_steps.specs.declared.step.Given.TheVariants.{Truth, Fault}
-use Rattle.lucid_steps.specs.declared.step.Step.{Step}
-use Rattle.lucid_steps.specs.declared.step.Step.TheVariants as step
-use Rattle.lucid_steps.specs.declared.step.Start.TheVariants as start
-use Rattle.lucid_steps.specs.Steps.{IsPoint, part_at, from_zero, start_of, found, step_after, StepLooks, StartLooks}
-use Rattle.lucid_steps.proofs.Told.{by_its_answer, to_its_point}
+use Rattle.lucid_equations.specs.declared.answer.Answer.{Answer}
+use Rattle.lucid_equations.specs.declared.step.Place.{Place}
+use Rattle.lucid_equations.specs.declared.step.Given.TheVariants.{Truth, Fault}
+use Rattle.lucid_equations.specs.declared.step.Step.{Step}
+use Rattle.lucid_equations.specs.declared.step.Step.TheVariants as step
+use Rattle.lucid_equations.specs.declared.step.Start.TheVariants as start
+use Rattle.lucid_equations.specs.Steps.{IsPoint, part_at, from_zero, start_of, found, step_after, StepLooks, StartLooks}
+use Rattle.lucid_equations.proofs.Told.{by_its_answer, to_its_point}
 
 -- What holds of both sides of a test holds of what is chosen.
 pub of_both : {A : Type 0} (P : A → Type 0) (b : Bool) (x y : A) → (b ≡ true → P x) → (b ≡ false → P y) → P (if b then x else y)

@@ -4,13 +4,13 @@ use Rattle.std.specs.Prelude.{pos}
 use Rattle.lucid_value.specs.Plain.{PlainValue, int, truth, eod, fault}
 use Rattle.lucid_tree.specs.declared.form.Form.{Form}
 use Rattle.lucid_tree.specs.Rows.{Plan, gives, last, look, by_test, by_place, only_truth}
-use Rattle.lucid_steps.specs.declared.answer.Answer.{Answer}
-use Rattle.lucid_steps.specs.declared.answer.Answer.TheVariants.{Holds, At, Ended, Other}
-use Rattle.lucid_steps.specs.declared.step.Place.{Place}
-use Rattle.lucid_steps.specs.declared.step.Given.TheVariants.{End, Fault}
-use Rattle.lucid_steps.specs.declared.step.Step.{Step}
-use Rattle.lucid_steps.specs.declared.step.Step.TheVariants as step
-use Rattle.lucid_steps.specs.Steps.{answer_of, judged, by_truth, to_point, given_value, step_plan}
+use Rattle.lucid_equations.specs.declared.answer.Answer.{Answer}
+use Rattle.lucid_equations.specs.declared.answer.Answer.TheVariants.{Holds, At, Ended, Other}
+use Rattle.lucid_equations.specs.declared.step.Place.{Place}
+use Rattle.lucid_equations.specs.declared.step.Given.TheVariants.{End, Fault}
+use Rattle.lucid_equations.specs.declared.step.Step.{Step}
+use Rattle.lucid_equations.specs.declared.step.Step.TheVariants as step
+use Rattle.lucid_equations.specs.Steps.{answer_of, judged, by_truth, to_point, given_value, step_plan}
 
 -- one look, and on by equal plans
 pub look_alike : (i t s l : ℕ) (k h : PlainValue → Plan) → ((v : PlainValue) → k v ≡ h v) → look i t s l k ≡ look i t s l h

@@ -1,7 +1,7 @@
 //! What a form does first, and what it does by a look.
 ghost use Rattle.std.specs.Prelude.{◌≡◌};
 ghost use Rattle.lucid_tree.specs.declared.form.Form.TheVariants as forms;
-ghost use Rattle.lucid_steps.specs.Steps.{part_at, judged, by_truth, found, moved_step, searched, counted, start_of, step_after};
+ghost use Rattle.lucid_equations.specs.Steps.{part_at, judged, by_truth, found, moved_step, searched, counted, start_of, step_after};
 
 use crate::answer::Answer;
 use lucid_tree::{Form, LAST};

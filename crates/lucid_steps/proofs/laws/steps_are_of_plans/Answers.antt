@@ -1,5 +1,0 @@
-use Rattle.lucid_steps.proofs.Plans.{steps_are_of_plans}
-use Rattle.lucid_steps.proofs.laws.steps_are_of_plans.Goals as goal
-
-pub returns : goal.returns
-returns c = steps_are_of_plans
