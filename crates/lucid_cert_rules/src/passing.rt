@@ -67,25 +67,32 @@ fn by_frame(program: &Program, tags: &Tags, name: u32, context: Tag, time: u64) 
     }
 }
 
+// A reference, by its name and its level.
+#[derive(Clone, Copy)]
+struct Named {
+    name: u32,
+    level: u32,
+}
+
 // What the reference of a name goes on with: nothing where its context has too few frames, or a frame of another kind.
 fn by_name(
     program: &Program,
     tags: &Tags,
-    name: u32,
-    level: u32,
+    named: Named,
     context: Tag,
     time: u64,
 ) -> Option<Position>
-    requires name { name < length (table_of program.now).names }
+    requires name { named.name < length (table_of program.now).names }
     requires there { IsOfContext tags.now context }
-    ensures at { going tags.now result ≡ onward (name_number_aim (table_of program.now) name (cut level (context_of tags.now context)) time) }
+    ensures at { going tags.now result ≡ onward (name_number_aim (table_of program.now) named.name (cut named.level (context_of tags.now context)) time) }
     ensures there { IfSome result (λ p. IsOfContext tags.now p.context) }
     ensures within { AreTimes tags.now → time ≤ last → IfSome result (IsWithin (table_of program.now)) }
 {
-    if u64::from(level) > tags.level(context) {
+    if u64::from(named.level) > tags.level(context) {
         return None;
     }
-    by_frame(program, tags, name, tags.cut(context, level), time)
+    let outer = tags.cut(context, named.level);
+    by_frame(program, tags, named.name, outer, time)
 }
 
 // A call, by its name, its place and its level.
@@ -152,7 +159,10 @@ pub fn onward(
                 time,
             }))
         }
-        Node::Refer { name, level } => Ok(by_name(program, tags, name, level, context, time)),
+        Node::Refer { name, level } => {
+            let named = Named { name, level };
+            Ok(by_name(program, tags, named, context, time))
+        }
         Node::Call { name, place, level } => {
             let call = Called { name, place, level };
             by_call(program, tags, call, context, time)

@@ -10,7 +10,7 @@ ghost use Rattle.lucid_demand.specs.Asking.{CanAsk, FindsAim, MayRefer, AsksIn, 
 
 use crate::DemandFault;
 use crate::turn::Evaluation;
-use lucid_demand_steps::{Aim, call_aim, moved_on, name_aim};
+use lucid_demand_steps::{Aim, Called, Named, call_aim, moved_on, name_aim};
 use lucid_equations::Node;
 use lucid_retire::Retire;
 use lucid_schedule::Pick;
@@ -59,23 +59,14 @@ impl<R: Retire, S: Pick> Evaluation<R, S> {
         ensures { FindsAim self.old self.new task result }
     {
         match self.program.node(task.node) {
-            Node::Refer { name, level } => Ok(name_aim(
-                &self.program,
-                &self.tags,
-                name,
-                level,
-                task.tag,
-                task.time,
-            )),
-            Node::Call { name, place, level } => call_aim(
-                &self.program,
-                &mut self.tags,
-                name,
-                place,
-                level,
-                task.tag,
-                task.time,
-            ),
+            Node::Refer { name, level } => {
+                let named = Named { name, level };
+                Ok(name_aim(&self.program, &self.tags, named, task.tag, task.time))
+            }
+            Node::Call { name, place, level } => {
+                let call = Called { name, place, level };
+                call_aim(&self.program, &mut self.tags, call, task.tag, task.time)
+            }
             _ => Ok(None),
         }
     }

@@ -1,6 +1,6 @@
 -- A ready row's form that only moves the point is `next` at the last time or `succ` at the last space, and gives an error.
 use Rattle.lucid_demand_steps.proofs.DecidingCommon.{ℕ, suc, List, Option, None, refl, ap, arith, nat_lt, if◌then◌else◌, last, Context, Task, TaskRow, Table, PlainRow, plain_row, Justified}
-use Rattle.std.proofs.Common.{◌≡◌, Bool, Some}
+use Rattle.std.proofs.Common.{Bool, Some}
 use Rattle.lucid_tree.specs.declared.form.Form.TheVariants as forms
 use Rattle.lucid_tree.specs.Tree.{stream}
 use Rattle.lucid_equations.specs.declared.step.Given.TheVariants as given

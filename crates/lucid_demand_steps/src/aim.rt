@@ -117,25 +117,39 @@ fn outer(tags: &Tags, tag: Tag, level: u32) -> Tag
     }
 }
 
+/// A reference to a name.
+#[derive(Clone, Copy)]
+pub struct Named {
+    /// The number of the name.
+    pub name: u32,
+    /// How many of the outermost frames the name's own context keeps.
+    pub level: u32,
+}
+
+/// A call of a name.
+#[derive(Clone, Copy)]
+pub struct Called {
+    /// The number of the name.
+    pub name: u32,
+    /// The number of the call's place.
+    pub place: u32,
+    /// How many of the outermost frames the name's own context keeps.
+    pub level: u32,
+}
+
 /// What the reference of a name goes on with: nothing where its context has too few frames, or a frame of another kind.
 #[inline(always)]
-pub fn name_aim(
-    program: &Program,
-    tags: &Tags,
-    name: u32,
-    level: u32,
-    tag: Tag,
-    time: u64,
-) -> Option<Aim>
-    requires name { name < length (table_of program.now).names }
+pub fn name_aim(program: &Program, tags: &Tags, named: Named, tag: Tag, time: u64) -> Option<Aim>
+    requires name { named.name < length (table_of program.now).names }
     requires known { IsKnown tags.now tag }
-    ensures aim { plain_aim (table_of program.now) tags.now result ≡ aims.reference_aim (program_equations program.now) (refer name level) (context_of tags.now tag) time }
+    ensures aim { plain_aim (table_of program.now) tags.now result ≡ aims.reference_aim (program_equations program.now) (refer named.name named.level) (context_of tags.now tag) time }
     ensures there { IfSome result (IsAim (table_of program.now) tags.now (space_of tag)) }
 {
-    if u64::from(level) > tags.level(tag) {
+    if u64::from(named.level) > tags.level(tag) {
         return None;
     }
-    by_frame(program, tags, name, outer(tags, tag, level), time)
+    let kept = outer(tags, tag, named.level);
+    by_frame(program, tags, named.name, kept, time)
 }
 
 // Whether a call of the name at the place leads somewhere, whoever calls it and when.
@@ -159,29 +173,27 @@ fn leads(program: &Program, name: u32, place: u32) -> bool
 pub fn call_aim(
     program: &Program,
     tags: &mut Tags,
-    name: u32,
-    place: u32,
-    level: u32,
+    call: Called,
     tag: Tag,
     time: u64,
 ) -> Result<Option<Aim>, AllocError>
-    requires name { name < length (table_of program.now).names }
+    requires name { call.name < length (table_of program.now).names }
     requires known { IsKnown tags.old tag }
     ensures aim { IfOk result (λ o. plain_aim (table_of program.now) tags.new o
-        ≡ aims.call_aim (program_equations program.now) name place level (context_of tags.old tag) time) }
+        ≡ aims.call_aim (program_equations program.now) call.name call.place call.level (context_of tags.old tag) time) }
     ensures there { IfOk result (λ o. IfSome o (IsAim (table_of program.now) tags.new (space_of tag))) }
     // No context becomes known but that of its daton, and none where it leads nowhere.
     ensures entered { IfOk result (λ o. (c : Context) → In c tags.new → In c tags.old ⊎ IsOfDaton tags.new o c) }
     // It is refused only where that context isn't known, and then no context becomes known.
-    ensures unknown { OnErr result (IsOfUnknown tags.old (aims.call_aim (program_equations program.now) name place level (context_of tags.old tag) time)) }
+    ensures unknown { OnErr result (IsOfUnknown tags.old (aims.call_aim (program_equations program.now) call.name call.place call.level (context_of tags.old tag) time)) }
     ensures err { OnErr result (tags.new ≡ tags.old) }
     ensures keeps { KeepsKnown tags.old tags.new }
     ensures one_for_one { IsOneForOne tags.new }
 {
-    if u64::from(level) > tags.level(tag) || !leads(program, name, place) {
+    if u64::from(call.level) > tags.level(tag) || !leads(program, call.name, call.place) {
         return Ok(None);
     }
-    let base = tags.cut(tag, level);
-    let inner = tags.enter_call(base, place, tag)?;
-    Ok(by_frame(program, tags, name, inner, time))
+    let base = tags.cut(tag, call.level);
+    let inner = tags.enter_call(base, call.place, tag)?;
+    Ok(by_frame(program, tags, call.name, inner, time))
 }
