@@ -1,6 +1,6 @@
 -- What a step keeps: where a search began elsewhere, the row decides as before, at no more cost; and what is noted costs nothing.
-use Rattle.lucid_demand.proofs.Common.{ℕ, inl, inr, List, Option, sym, ap, ◌∙◌, subst, arith, IsTrue, if◌then◌else◌, Value, Task, TaskRow, is_ready, Noted, World, EngineView, Demand, Owns, at_it, at_another, changed_there, Evaluating, Stepped, cost, DemandIn, MayAct, MayAskNow, DemandFault, ◌==◌, cases_eq}
-use Rattle.std.proofs.Common.{◌≡◌, ◌<◌, ◌≤◌, ◌⊎◌, Some}
+use Rattle.lucid_demand.proofs.Common.{ℕ, inl, inr, List, Option, sym, ap, ◌∙◌, subst, arith, IsTrue, if◌then◌else◌, Value, Task, TaskRow, is_ready, Noted, World, EngineView, Demand, Owns, at_it, at_another, Evaluating, Stepped, cost, DemandIn, MayAct, MayAskNow, DemandFault, ◌==◌, cases_eq}
+use Rattle.std.proofs.Common.{◌≡◌, ◌≤◌, ◌⊎◌, Some}
 use Rattle.std.specs.Prelude.{Result, option_map}
 use Rattle.lucid_tasks.specs.Rows as rows
 use Rattle.lucid_tasks.specs.Rows.{row_at}

@@ -1,5 +1,5 @@
 -- What a demand promises, by what is true when its loop ends.
-use Rattle.lucid_demand.proofs.Common.{ℕ, [], ◌∷◌, ap, ◌∙◌, Value, plain, Elements, World, equations_of, Table, HoldsRight, EngineView, IsSound, MayHave, holding, AreAskable, ReadsWithin, demand_of, stays, engine_begins, DemandFault, Demanded, LoopEnds}
+use Rattle.lucid_demand.proofs.Common.{ℕ, ap, ◌∙◌, Value, plain, Elements, World, equations_of, Table, HoldsRight, EngineView, IsSound, MayHave, holding, AreAskable, ReadsWithin, demand_of, stays, engine_begins, DemandFault, Demanded, LoopEnds}
 use Rattle.std.proofs.Common.{◌≡◌, Some, Result, Ok, Err}
 use Rattle.std.specs.Prelude.{IfOk}
 use Rattle.lucid_equations.specs.Values.{eqval, eqhval}

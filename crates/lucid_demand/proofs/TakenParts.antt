@@ -54,6 +54,20 @@ applied_value op e slot args ws (Ok v) is count got = λ rest vs l h. is
     ∙ ap (algebra op) (sym (same_values (value_of e slot) (args rest) 0 vs ws (l ∙ sym count) h (got rest)))
 applied_value op e slot args ws (Err f) is count got = tt
 
+-- So it is with the three in a list of three.
+pub applied_three : {E : Type 0} (op : Op) (e : Evaluating) (slot : ℕ) (args : List ℕ) → length args ≡ 3 → (x y z : PlainValue)
+    → value_of e slot 0 (slice_index_or args 0 0) ≡ Some x → value_of e slot 1 (slice_index_or args 1 0) ≡ Some y
+    → value_of e slot 2 (slice_index_or args 2 0) ≡ Some z
+    → (result : Result Value E) → IfOk result (λ v. plain v ≡ algebra op (x ∷ y ∷ z ∷ [])) → 3 ≡ arity op
+    → IfOk result (Applies e slot op args)
+applied_three op e slot [] l x y z f g h r is count = absurd (omega (arith, l))
+applied_three op e slot (i ∷ []) l x y z f g h r is count = absurd (omega (arith, l))
+applied_three op e slot (i ∷ j ∷ []) l x y z f g h r is count = absurd (omega (arith, l))
+applied_three op e slot (i ∷ j ∷ k ∷ []) l x y z f g h (Ok v) is count = λ vs m got. is
+    ∙ ap (algebra op) (sym (same_values (value_of e slot) (i ∷ j ∷ k ∷ []) 0 vs (x ∷ y ∷ z ∷ []) (m ∙ sym count) got (f, (g, (h, tt)))))
+applied_three op e slot (i ∷ j ∷ k ∷ []) l x y z f g h (Err w) is count = tt
+applied_three op e slot (i ∷ j ∷ k ∷ n ∷ rest) l x y z f g h r is count = absurd (omega (arith, l))
+
 -- a refusal that is this one
 pub err_is : {A E : Type 0} (r : Result A E) (x : E) → IsErrAnd r (λ e. e ≡ x) → r ≡ Err x
 err_is (Ok a) x h = absurd h

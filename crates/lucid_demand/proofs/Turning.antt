@@ -1,5 +1,5 @@
 -- A policy's turn keeps what is true of a demand's loop, and leaves what a step asks for.
-use Rattle.lucid_demand.proofs.Common.{ℕ, List, [], Option, None, sym, ap, ◌∙◌, subst, arith, IsTrue, IsSome, is_some, Value, PlainValue, plain, Elements, TaskRow, is_ready, Stored, World, PlainTask, DatonAt, plain_rows, EngineView, known_elements, holding, Demand, Owns, Waits, held_stays, answers_over, work_over, owns_drops, Evaluating, MayStep, Stepped, cost, MayTurn, IsTurned, DemandFault, lookup}
+use Rattle.lucid_demand.proofs.Common.{ℕ, List, Option, None, sym, ap, ◌∙◌, subst, arith, IsTrue, IsSome, is_some, Value, PlainValue, plain, Elements, TaskRow, is_ready, Stored, World, PlainTask, DatonAt, plain_rows, EngineView, known_elements, holding, Demand, Owns, Waits, held_stays, answers_over, work_over, owns_drops, Evaluating, MayStep, Stepped, cost, MayTurn, IsTurned, DemandFault, lookup}
 use Rattle.std.proofs.Common.{◌≡◌, Some}
 use Rattle.std.specs.Prelude.{option_map, Result}
 use Rattle.std.proofs.lemmas.List.{nil_from_length}

@@ -118,21 +118,13 @@ impl<R: Retire, S: Pick> Evaluation<R, S> {
 
     // The same with three values.
     #[inline(never)]
-    fn applied_to_three(
-        &self,
-        slot: usize,
-        op: Op,
-        first: u32,
-        second: u32,
-        third: u32,
-    ) -> Result<Value, AllocError>
+    fn applied_to_three(&self, slot: usize, op: Op, args: [u32; 3]) -> Result<Value, AllocError>
         requires row { IsRow self.now.rows slot }
         requires count { arity op ≡ 3 }
-        requires first { IsThere self.now slot 0 first }
-        requires second { IsThere self.now slot 1 second }
-        requires third { IsThere self.now slot 2 third }
-        ensures { IfOk result (λ v. (rest : List ℕ) → Applies self.now slot op (first ∷ second ∷ third ∷ rest) v) }
+        requires there { AreThere self.now slot 3 args }
+        ensures { IfOk result (Applies self.now slot op args) }
     {
+        let [first, second, third] = args;
         match (
             self.argument(slot, 0, first),
             self.argument(slot, 1, second),
@@ -156,7 +148,7 @@ impl<R: Retire, S: Pick> Evaluation<R, S> {
         match op.arity() {
             1 => self.applied_to_one(slot, op, first),
             2 => self.applied_to_two(slot, op, first, second),
-            _ => self.applied_to_three(slot, op, first, second, third),
+            _ => self.applied_to_three(slot, op, args),
         }
     }
 
