@@ -1,10 +1,9 @@
 -- How a run goes on: it begins, and a value is demanded.
-use Rattle.lucid_session.proofs.Common.{◌≡◌, ℕ, ◌+◌, ◌<◌, ◌≤◌, length, Option, None, refl, sym, ap, ◌∙◌, subst, arith, ◌⊎◌, inl, inr, IsTrue, IfSome, Result, Ok, Err, IfOk, IfErr, ◌↔◌, cases_lt, slice_get_within, same_Some, Value, plain, In, Elements, Context, root, count_of, empty_warehouse, Rises, World, eqval, equations_of, HoldsRight, elements_told, EngineView, IsSound, AreAskable, ReadsOnly, MayHave, HoldsNeeded, places_of, holding, reads_only_itself, Demanded, most_known, DemandFault, StreamMeans, table_stream_at, Found, Asked, Start, Has, of_run, Draws, IsEntered, MuchEntered, Visited, Holds, SoFar, with_point, Standing, ◌-◌, ◌^◌}
+use Rattle.lucid_session.proofs.Common.{◌≡◌, ℕ, ◌+◌, ◌<◌, ◌≤◌, length, Option, None, refl, sym, ap, ◌∙◌, subst, arith, ◌⊎◌, inl, inr, IsTrue, IfSome, Result, Ok, Err, IfOk, IfErr, ◌↔◌, cases_lt, slice_get_within, same_Some, Value, plain, In, Elements, Context, root, count_of, empty_warehouse, Rises, World, eqval, equations_of, HoldsRight, elements_told, EngineView, IsSound, AreAskable, ReadsOnly, MayHave, HoldsNeeded, places_of, holding, reads_only_itself, Demanded, DemandFault, StreamMeans, table_stream_at, Found, Asked, Start, Has, of_run, Draws, IsEntered, MuchEntered, Visited, Holds, SoFar, with_point, Standing, ◌-◌, ◌^◌}
 use Rattle.std.proofs.Common.{[], ◌∷◌, Some}
 use Rattle.lucid_demand_steps.specs.Engine.{ConsultsOverlong, GoesOn, known_elements}
 use Rattle.lucid_demand_steps.proofs.History.{reads_only_then}
 use Rattle.lucid_demand_steps.proofs.MoreRead.{right_over}
-use Rattle.lucid_demand.specs.Demanded.{MayDemand}
 use Rattle.lucid_demand_steps.specs.Faults as faults
 use Rattle.lucid_demand_steps.specs.declared.fault.DemandFault.TheVariants.{TooLarge}
 use Rattle.lucid_session.proofs.Added.{at_once, so}

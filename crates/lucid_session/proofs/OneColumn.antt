@@ -1,10 +1,11 @@
 -- One column runs as its stream does: a run of the one is a run of the other.
-use Rattle.lucid_session.proofs.Common.{◌≡◌, ℕ, suc, ◌<◌, ◌≤◌, Bool, true, false, List, ◌++◌, None, refl, sym, ap, ◌∙◌, subst, arith, inl, inr, append-nil, IsSome, Result, Ok, Err, IfOk, IfErr, if◌then◌else◌, cases_lt, slice_get_within, eod, Elements, In, Summary, RunFault, Points, Table, OneStream, StreamMeans, stream_subject, columns_subject, IsCell, AreCells, HasEnded, IsOpen, OfSome, Output, no_lines, one_line_more, parted, RunView, Written, ConsumesWithin, EndsAt, IsTooDeep, OnTooDeep, OnTooLarge, IsShown, Ran, Demands, ArePointsBelow, ArePointsBefore, table_counted, columns_counted, times_of, Figures}
+use Rattle.lucid_session.proofs.Common.{◌≡◌, ℕ, suc, ◌<◌, ◌≤◌, Bool, true, false, List, ◌++◌, None, refl, sym, ap, ◌∙◌, subst, arith, inl, inr, append-nil, IsSome, Result, Ok, Err, IfOk, IfErr, if◌then◌else◌, cases_lt, slice_get_within, eod, Elements, In, Summary, RunFault, Points, Table, OneStream, StreamMeans, stream_subject, columns_subject, IsCell, AreCells, HasEnded, IsOpen, OfSome, Output, no_lines, one_line_more, parted, RunView, Written, ConsumesWithin, EndsAt, IsTooDeep, OnTooDeep, OnTooLarge, IsShown, Ran, Demands, ArePointsBelow, ArePointsBefore, table_counted, columns_counted, times_of, Figures, PromisesColumns}
 use Rattle.std.proofs.Common.{[], ◌∷◌}
 use Rattle.lucid_ports.specs.declared.run.RunFault.TheVariants.{TooDeep, ReadFault, TooLarge}
 use Rattle.lucid_session.specs.Subject.{table_stream, OfEach}
 use Rattle.lucid_session.specs.Runs.{IsBegun, IsConsulted, ConsultsOverlong, IsDone, IsUndisturbed, IsDeepEnough}
 use Rattle.lucid_session.specs.Figures.{one_stream, side_by_side}
+use Rattle.lucid_session.specs.Sessions.{Promises}
 
 module _ (x : OneStream) (b : Elements) where
   -- the one of one
@@ -223,3 +224,13 @@ module _ (T : Table) (b : Elements) (r : RunView) where
       opened = open_through (table_stream T) b ran.out.whole ran.out.bytes ran.out.output
   figures_one (Err ReadFault) ran f = record { held = λ keeps. tt; deep = λ keeps. tt; cleared = tt }
   figures_one _ ran f = record { held = λ keeps. tt; deep = λ keeps. tt; cleared = tt }
+
+-- So what is promised of one column is promised of its stream.
+pub promise_one : (T : Table) (r : RunView) (result : Result Summary RunFault) → PromisesColumns T 1 r result
+    → Promises (stream_subject (table_stream T)) (table_counted T) r result
+promise_one T r result ran = record {
+  headline = λ b e. ran_one (table_stream T) b r result (ran.headline b e);
+  figures = λ b e. figures_one T b r result (ran.headline b e) (ran.figures b e);
+  causes = ran.causes;
+  reads_only = ran.reads_only;
+}

@@ -27,41 +27,15 @@ pub(crate) fn clear_many<R: Retire, S: Pick>(engine: &mut Engine<R, S>, cleared:
     }
 }
 
-// Demands the value of an open column, and adds its text to the line. Whether the column stays open.
-fn add_cell<P: Places, R: Retire, S: Pick>(
-    alloc: Global,
-    engine: &mut Engine<R, S>,
-    places: &mut P,
-    line: &mut Vec<u8>,
-    time: u32,
-    space: u64,
-    depth: u32,
-    cleared: &mut u64,
-) -> Result<bool, RunFault>
-    requires askable { AreAskable engine.old.streams (P.world places.old) }
-    requires space { space < 16 }
-    requires depth { 0 < depth }
-    requires cleared { cleared.old < 2 ^ 64 - 1 }
-    ensures cell { (z : Start) → z.depth ≡ depth → Standing z (before z time space) engine.old (P.world places.old) cleared.old
-        → ((b : Elements) → Has z b → Demands (layout z) b time space)
-        → MatchResult result
-        (λ stays. Standing z (before z time (space + 1)) engine.new (P.world places.new) cleared.new × GivesCell z time space stays line.old.items line.new.items)
-        (λ q. StopsAt z engine.new (P.world places.new) time cleared.new q) }
-    ensures counts { cleared.new ≤ cleared.old + 1 }
-    ensures askable { AreAskable engine.new.streams (P.world places.new) }
-{
-    clear_many(engine, cleared);
-    let value = match engine.demand_at(places, u64::from(time), space, depth) {
-        Ok(value) => value,
-        Err(fault) => return Err(run_fault(fault, time, engine.lost(), *cleared)),
-    };
-    if is_end(&value) {
-        return Ok(false);
-    }
-    match value.show(alloc, line) {
-        Ok(()) => Ok(true),
-        Err(_) => Err(RunFault::NoMemory),
-    }
+/// A run that is under way: its engine, the line that is made, how often the engine was cleared, and whether that is done once more where all
+/// columns have ended.
+#[derive(Drop)]
+pub(crate) struct Running<R: Retire, S: Pick> {
+    pub(crate) alloc: Global,
+    pub(crate) engine: Engine<R, S>,
+    pub(crate) line: Vec<u8>,
+    pub(crate) cleared: u64,
+    pub(crate) clears_last: bool,
 }
 
 // Parts a cell from the one before.
@@ -74,49 +48,75 @@ fn part(line: &mut Vec<u8>, space: usize) -> Result<(), RunFault>
     Ok(())
 }
 
-/// Makes the cells of a time, in the order of the columns, parted by tabs. `is_open` says of each column whether it is open. Whether one of them
-/// goes on.
-pub(crate) fn add_cells<P: Places, R: Retire, S: Pick>(
-    alloc: Global,
-    engine: &mut Engine<R, S>,
-    is_open: &mut [bool],
-    places: &mut P,
-    line: &mut Vec<u8>,
-    time: u32,
-    depth: u32,
-    cleared: &mut u64,
-) -> Result<bool, RunFault>
-    requires askable { AreAskable engine.old.streams (P.world places.old) }
-    requires columns { length is_open.old ≤ 16 }
-    requires depth { 0 < depth }
-    requires cleared { cleared.old ≤ 17 * time }
-    ensures cells { (z : Start) → z.depth ≡ depth → z.columns ≡ length is_open.old → Standing z (before z time 0) engine.old (P.world places.old) cleared.old
-        → ((b : Elements) → Has z b → AreMarked z b time 0 is_open.old)
-        → MatchResult result
-        (λ goes_on. Standing z (before z (time + 1) 0) engine.new (P.world places.new) cleared.new
-        × ((b : Elements) → Has z b → AreMarked z b (time + 1) 0 is_open.new × HasCells z b time z.columns line.new.items goes_on))
-        (λ q. StopsAt z engine.new (P.world places.new) time cleared.new q) }
-    ensures counts { cleared.new ≤ cleared.old + 16 }
-    ensures askable { AreAskable engine.new.streams (P.world places.new) }
-{
-    line.clear();
-    let mut goes_on = false;
-    for space in 0..is_open.len() {
-        part(line, space)?;
-        if is_open[space] {
-            let stays = add_cell(
-                alloc,
-                engine,
-                places,
-                line,
-                time,
-                space as u64,
-                depth,
-                cleared,
-            )?;
-            is_open[space] = stays;
-            goes_on |= stays;
+impl<R: Retire, S: Pick> Running<R, S> {
+    // Demands the value of an open column, and adds its text to the line. Whether the column stays open.
+    fn add_cell<P: Places>(
+        &mut self,
+        places: &mut P,
+        time: u32,
+        space: u64,
+        depth: u32,
+    ) -> Result<bool, RunFault>
+        requires askable { AreAskable self.old.engine.streams (P.world places.old) }
+        requires space { space < 16 }
+        requires depth { 0 < depth }
+        requires cleared { self.old.cleared < 2 ^ 64 - 1 }
+        ensures cell { (z : Start) → z.depth ≡ depth → Standing z (before z time space) self.old.engine (P.world places.old) self.old.cleared
+            → ((b : Elements) → Has z b → Demands (layout z) b time space)
+            → MatchResult result
+            (λ stays. Standing z (before z time (space + 1)) self.new.engine (P.world places.new) self.new.cleared
+            × GivesCell z time space stays self.old.line.items self.new.line.items)
+            (λ q. StopsAt z self.new.engine (P.world places.new) time self.new.cleared q) }
+        ensures counts { self.new.cleared ≤ self.old.cleared + 1 }
+        ensures askable { AreAskable self.new.engine.streams (P.world places.new) }
+    {
+        clear_many(&mut self.engine, &mut self.cleared);
+        let value = match self.engine.demand_at(places, u64::from(time), space, depth) {
+            Ok(value) => value,
+            Err(fault) => return Err(run_fault(fault, time, self.engine.lost(), self.cleared)),
+        };
+        if is_end(&value) {
+            return Ok(false);
+        }
+        match value.show(self.alloc, &mut self.line) {
+            Ok(()) => Ok(true),
+            Err(_) => Err(RunFault::NoMemory),
         }
     }
-    Ok(goes_on)
+
+    /// Makes the cells of a time, in the order of the columns, parted by tabs. `is_open` says of each column whether it is open. Whether one of
+    /// them goes on.
+    pub(crate) fn add_cells<P: Places>(
+        &mut self,
+        is_open: &mut [bool],
+        places: &mut P,
+        time: u32,
+        depth: u32,
+    ) -> Result<bool, RunFault>
+        requires askable { AreAskable self.old.engine.streams (P.world places.old) }
+        requires columns { length is_open.old ≤ 16 }
+        requires depth { 0 < depth }
+        requires cleared { self.old.cleared ≤ 17 * time }
+        ensures cells { (z : Start) → z.depth ≡ depth → z.columns ≡ length is_open.old
+            → Standing z (before z time 0) self.old.engine (P.world places.old) self.old.cleared
+            → ((b : Elements) → Has z b → AreMarked z b time 0 is_open.old)
+            → MatchResult result
+            (λ goes_on. Standing z (before z (time + 1) 0) self.new.engine (P.world places.new) self.new.cleared
+            × ((b : Elements) → Has z b → AreMarked z b (time + 1) 0 is_open.new × HasCells z b time z.columns self.new.line.items goes_on))
+            (λ q. StopsAt z self.new.engine (P.world places.new) time self.new.cleared q) }
+        ensures counts { self.new.cleared ≤ self.old.cleared + 16 }
+        ensures askable { AreAskable self.new.engine.streams (P.world places.new) }
+    {
+        self.line.clear();
+        let mut goes_on = false;
+        for space in 0..is_open.len() {
+            part(&mut self.line, space)?;
+            if is_open[space] {
+                let stays = self.add_cell(places, time, space as u64, depth)?;
+                is_open[space] = stays;
+                goes_on |= stays;
+            }
+        }
+        Ok(goes_on)
+    }
 }

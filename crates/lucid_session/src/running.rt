@@ -11,7 +11,7 @@ ghost use Rattle.lucid_session.specs.Figures.{table_counted, columns_counted};
 ghost use Rattle.lucid_session.specs.Cells.{ClearsMany};
 ghost use Rattle.lucid_session.specs.Sessions.{IsFresh, engine_run, Promises, PromisesColumns};
 
-use crate::cells::{add_cells, clear_many};
+use crate::cells::{Running, clear_many};
 use crate::lines::write_line;
 use lucid_demand::Engine;
 use lucid_equations::Program;
@@ -43,19 +43,18 @@ pub fn run<P: Places, K: Sink, R: Retire, S: Pick>(
     ensures { Promises (stream_subject (table_stream (table_of program))) (table_counted (table_of program))
         (run_view options.now (policy_view R.keeps R.empties R.most policy) (table_of program) inputs (P.world places.old) (P.world places.new) (told K.written K.faults K.late out.old) (told K.written K.faults K.late out.new)) result }
 {
-    let mut is_open = [true];
-    run_side_by_side(
+    let Ok(engine) = Engine::make(alloc, program, inputs, policy, pick) else {
+        return Err(RunFault::NoMemory);
+    };
+    let mut running = Running {
         alloc,
-        program,
-        &mut is_open,
-        false,
-        places,
-        inputs,
-        out,
-        policy,
-        pick,
-        options,
-    )
+        engine,
+        line: Vec::new(alloc),
+        cleared: 0,
+        clears_last: false,
+    };
+    let mut is_open = [true];
+    running.write_lines(&mut is_open, places, out, options)
 }
 
 /// Writes the lines of several columns of a program side by side: of its values at the spaces from 0 on. A line is the texts of the values of a
@@ -79,127 +78,72 @@ pub fn run_columns<P: Places, K: Sink, R: Retire, S: Pick>(
     ensures { Promises (columns_subject (table_columns (table_of program) columns)) (columns_counted (table_of program) columns)
         (run_view options.now (policy_view R.keeps R.empties R.most policy) (table_of program) inputs (P.world places.old) (P.world places.new) (told K.written K.faults K.late out.old) (told K.written K.faults K.late out.new)) result }
 {
-    let mut is_open = [true; MOST_COLUMNS];
-    run_side_by_side(
-        alloc,
-        program,
-        &mut is_open[..columns as usize],
-        true,
-        places,
-        inputs,
-        out,
-        policy,
-        pick,
-        options,
-    )
-}
-
-// The run of as many columns as there are marks, all of which are open. Whether many contexts are cleared at the end too is told.
-fn run_side_by_side<P: Places, K: Sink, R: Retire, S: Pick>(
-    alloc: Global,
-    program: Program,
-    is_open: &mut [bool],
-    clears_last: bool,
-    places: &mut P,
-    inputs: Inputs,
-    out: &mut K,
-    policy: R,
-    pick: S,
-    options: &Options,
-) -> Result<Summary, RunFault>
-    requires streams { length (streams inputs) ≡ length (table_of program).inputs }
-    requires askable { AreAskable (streams inputs) (P.world places.old) }
-    requires columns { length is_open.old ≤ 16 }
-    requires opened { (j : ℕ) (mark : Bool) → slice_get is_open.old j ≡ Some mark → mark ≡ true }
-    ensures { PromisesColumns (table_of program) (length is_open.old)
-        (run_view options.now (policy_view R.keeps R.empties R.most policy) (table_of program) inputs (P.world places.old) (P.world places.new) (told K.written K.faults K.late out.old) (told K.written K.faults K.late out.new)) result }
-{
-    let Ok(mut engine) = Engine::make(alloc, program, inputs, policy, pick) else {
+    let Ok(engine) = Engine::make(alloc, program, inputs, policy, pick) else {
         return Err(RunFault::NoMemory);
     };
-    write_lines(
+    let mut running = Running {
         alloc,
-        &mut engine,
-        is_open,
-        clears_last,
-        places,
-        out,
-        options,
-    )
+        engine,
+        line: Vec::new(alloc),
+        cleared: 0,
+        clears_last: true,
+    };
+    let mut is_open = [true; MOST_COLUMNS];
+    running.write_lines(&mut is_open[..columns as usize], places, out, options)
 }
 
-// Writes the lines of an engine's program.
-fn write_lines<P: Places, K: Sink, R: Retire, S: Pick>(
-    alloc: Global,
-    engine: &mut Engine<R, S>,
-    is_open: &mut [bool],
-    clears_last: bool,
-    places: &mut P,
-    out: &mut K,
-    options: &Options,
-) -> Result<Summary, RunFault>
-    requires fresh { IsFresh engine.old (P.world places.old) }
-    requires columns { length is_open.old ≤ 16 }
-    requires opened { (j : ℕ) (mark : Bool) → slice_get is_open.old j ≡ Some mark → mark ≡ true }
-    ensures { PromisesColumns engine.old.table (length is_open.old)
-        (engine_run options.now engine.old (P.world places.old) (P.world places.new) (told K.written K.faults K.late out.old) (told K.written K.faults K.late out.new)) result }
-{
-    let mut line = Vec::new(alloc);
-    let mut cleared = 0;
-    for time in 0..options.count {
-        let goes_on = add_cells(
-            alloc,
-            engine,
-            is_open,
-            places,
-            &mut line,
-            time,
-            options.depth,
-            &mut cleared,
-        )?;
-        if !goes_on {
-            return Ok(ended(engine, time, clears_last, cleared));
+impl<R: Retire, S: Pick> Running<R, S> {
+    // Writes the lines of as many columns as there are marks, all of which are open.
+    fn write_lines<P: Places, K: Sink>(
+        &mut self,
+        is_open: &mut [bool],
+        places: &mut P,
+        out: &mut K,
+        options: &Options,
+    ) -> Result<Summary, RunFault>
+        requires fresh { IsFresh self.old.engine (P.world places.old) }
+        requires none { self.old.cleared ≡ 0 }
+        requires columns { length is_open.old ≤ 16 }
+        requires opened { (j : ℕ) (mark : Bool) → slice_get is_open.old j ≡ Some mark → mark ≡ true }
+        ensures { PromisesColumns self.old.engine.table (length is_open.old)
+            (engine_run options.now self.old.engine (P.world places.old) (P.world places.new) (told K.written K.faults K.late out.old) (told K.written K.faults K.late out.new)) result }
+    {
+        for time in 0..options.count {
+            let goes_on = self.add_cells(is_open, places, time, options.depth)?;
+            if !goes_on {
+                return Ok(self.ended(time));
+            }
+            write_line(&mut self.line, out)?;
+            clear_many(&mut self.engine, &mut self.cleared);
         }
-        write_line(&mut line, out)?;
-        clear_many(engine, &mut cleared);
+        Ok(self.summary(options.count, false))
     }
-    Ok(summary(engine, options.count, false, cleared))
-}
 
-// What a run has done all of whose columns have ended.
-fn ended<R: Retire, S: Pick>(
-    engine: &mut Engine<R, S>,
-    lines: u32,
-    clears_last: bool,
-    cleared: u64,
-) -> Summary
-    requires { cleared < 2 ^ 64 - 1 }
-    ensures many { ((engine.new ≡ engine.old) × (result.cleared ≡ cleared)) ⊎ ClearsMany engine.old engine.new cleared result.cleared }
-    ensures summary { result ≡ record { lines = lines; ended = true; held = count_of engine.new.stored; lost = engine.new.stored.lost; cleared = result.cleared } }
-    ensures one_for_each { IsOneForEach engine.new.stored }
-{
-    let mut cleared = cleared;
-    if clears_last {
-        clear_many(engine, &mut cleared);
+    // What a run has done all of whose columns have ended.
+    fn ended(&mut self, lines: u32) -> Summary
+        requires { self.old.cleared < 2 ^ 64 - 1 }
+        ensures many { ((self.new.engine ≡ self.old.engine) × (result.cleared ≡ self.old.cleared))
+            ⊎ ClearsMany self.old.engine self.new.engine self.old.cleared result.cleared }
+        ensures summary { result ≡ record { lines = lines; ended = true; held = count_of self.new.engine.stored; lost = self.new.engine.stored.lost; cleared = result.cleared } }
+        ensures one_for_each { IsOneForEach self.new.engine.stored }
+    {
+        if self.clears_last {
+            clear_many(&mut self.engine, &mut self.cleared);
+        }
+        self.summary(lines, true)
     }
-    summary(engine, lines, true, cleared)
-}
 
-// What a run has done that wrote these lines.
-fn summary<R: Retire, S: Pick>(
-    engine: &Engine<R, S>,
-    lines: u32,
-    ended: bool,
-    cleared: u64,
-) -> Summary
-    ensures summary { result ≡ record { lines = lines; ended = ended; held = count_of engine.now.stored; lost = engine.now.stored.lost; cleared = cleared } }
-    ensures one_for_each { IsOneForEach engine.now.stored }
-{
-    Summary {
-        lines,
-        ended,
-        held: engine.held(),
-        lost: engine.lost(),
-        cleared,
+    // What a run has done that wrote these lines.
+    fn summary(&self, lines: u32, ended: bool) -> Summary
+        ensures summary { result ≡ record { lines = lines; ended = ended; held = count_of self.now.engine.stored; lost = self.now.engine.stored.lost; cleared = self.now.cleared } }
+        ensures one_for_each { IsOneForEach self.now.engine.stored }
+    {
+        Summary {
+            lines,
+            ended,
+            held: self.engine.held(),
+            lost: self.engine.lost(),
+            cleared: self.cleared,
+        }
     }
 }

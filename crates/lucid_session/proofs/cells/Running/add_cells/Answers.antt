@@ -1,7 +1,7 @@
 use Rattle.lucid_session.proofs.Common.{true, false, refl, arith, err_from_is_err_and}
 use Rattle.lucid_session.proofs.CellSteps.{get_at, begins_cells, lacks_here, skipped_here, demanded_here, given_here, ends_cells}
-use Rattle.lucid_session.proofs.cells.add_cells.Goals as goal
-use Rattle.lucid_session.proofs.cells.add_cells.Goals.{then-is_open-space+in_ok-stays, else-is_open-space}
+use Rattle.lucid_session.proofs.cells.Running.add_cells.Goals as goal
+use Rattle.lucid_session.proofs.cells.Running.add_cells.Goals.{then-is_open-space+in_ok-stays, else-is_open-space}
 
 pub loop-space-init : goal.loop-space-init
 loop-space-init g c = record {
@@ -28,7 +28,7 @@ returns-in_err-stays-clause-cells g c z deep columns standing marked =
 pub loop-space-preserved : goal.loop-space-preserved
 loop-space-preserved g c =
     elim c.if-is_open-space.branch [
-      | then-is_open-space+in_ok-stays w ↦ rw (w.engine-is, w.places-is, w.is_open-is, w.line-is, w.cleared-is, w.goes_on-is) (record {
+      | then-is_open-space+in_ok-stays w ↦ rw (w.self-is, w.places-is, w.is_open-is, w.goes_on-is) (record {
         cells = λ z deep columns standing marked.
             let now = c.loop-space.invariant.cells z deep columns standing marked in
             let is = get_at c.loop-space.is_open c.loop-space.space false true (omega (arith, c.loop-space-test.true, c.loop-space.auto.is_open))
@@ -38,7 +38,7 @@ loop-space-preserved g c =
         counts = omega (arith, w.in_ok-stays.ensures.counts, c.loop-space.invariant.counts);
         askable = w.in_ok-stays.ensures.askable;
       })
-      | else-is_open-space w ↦ rw (w.engine-is, w.places-is, w.is_open-is, w.line-is, w.cleared-is, w.goes_on-is) (record {
+      | else-is_open-space w ↦ rw (w.self-is, w.places-is, w.is_open-is, w.goes_on-is) (record {
         cells = λ z deep columns standing marked.
             let is = get_at c.loop-space.is_open c.loop-space.space false false (omega (arith, c.loop-space-test.true, c.loop-space.auto.is_open))
             w.if-is_open-space.false in

@@ -1,17 +1,17 @@
 use Rattle.lucid_session.proofs.Common.{length, refl, sym, arith, err_from_is_err_and, start_of}
 use Rattle.lucid_session.proofs.Steps.{begins_there, all_open, stopped_there, ended_there, cells_told, unwritten_there, written_there, counted_there, counts_after}
-use Rattle.lucid_session.proofs.running.write_lines.Goals as goal
+use Rattle.lucid_session.proofs.cells.Running.write_lines.Goals as goal
 
 pub loop-time-init : goal.loop-time-init
 loop-time-init g c = record {
-  going = begins_there _ _ refl c.requires.fresh.sound c.requires.fresh.askable refl c.requires.fresh.known c.requires.fresh.stored;
+  going = rw c.requires.none (begins_there _ _ refl c.requires.fresh.sound c.requires.fresh.askable refl c.requires.fresh.known c.requires.fresh.stored);
   marked = λ b has. all_open _ b _ c.requires.opened;
-  counts = omega arith;
+  counts = omega (arith, c.requires.none);
 }
 
 pub returns-in_err-goes_on : goal.returns-in_err-goes_on
 returns-in_err-goes_on g c =
-    let z = start_of c.args.options.now (length c.args.is_open.now) c.args.engine.now (g.P.Places.world c.args.places.now)
+    let z = start_of c.args.options.now (length c.args.is_open.now) c.args.self.now.engine (g.P.Places.world c.args.places.now)
     (record { bytes = g.K.Sink.written c.args.out.now; faults = g.K.Sink.faults c.args.out.now; late = g.K.Sink.late c.args.out.now }) in
     let going = c.loop-time.invariant.going in
     let p = err_from_is_err_and c.from_residual.result c.from_residual.ensures.1 in
@@ -21,7 +21,7 @@ returns-in_err-goes_on g c =
 
 pub returns-then-not-goes_on : goal.returns-then-not-goes_on
 returns-then-not-goes_on g c =
-    let z = start_of c.args.options.now (length c.args.is_open.now) c.args.engine.now (g.P.Places.world c.args.places.now)
+    let z = start_of c.args.options.now (length c.args.is_open.now) c.args.self.now.engine (g.P.Places.world c.args.places.now)
     (record { bytes = g.K.Sink.written c.args.out.now; faults = g.K.Sink.faults c.args.out.now; late = g.K.Sink.late c.args.out.now }) in
     let going = c.loop-time.invariant.going in
     let r = c.in_ok-goes_on.ensures.cells z refl (sym c.loop-time.auto.is_open) going.standing c.loop-time.invariant.marked in
@@ -30,7 +30,7 @@ returns-then-not-goes_on g c =
 
 pub returns-in_err-write_line : goal.returns-in_err-write_line
 returns-in_err-write_line g c =
-    let z = start_of c.args.options.now (length c.args.is_open.now) c.args.engine.now (g.P.Places.world c.args.places.now)
+    let z = start_of c.args.options.now (length c.args.is_open.now) c.args.self.now.engine (g.P.Places.world c.args.places.now)
     (record { bytes = g.K.Sink.written c.args.out.now; faults = g.K.Sink.faults c.args.out.now; late = g.K.Sink.late c.args.out.now }) in
     let going = c.loop-time.invariant.going in
     let r = c.in_ok-goes_on.ensures.cells z refl (sym c.loop-time.auto.is_open) going.standing c.loop-time.invariant.marked in
@@ -42,7 +42,7 @@ returns-in_err-write_line g c =
 
 pub loop-time-preserved : goal.loop-time-preserved
 loop-time-preserved g c =
-    let z = start_of c.args.options.now (length c.args.is_open.now) c.args.engine.now (g.P.Places.world c.args.places.now)
+    let z = start_of c.args.options.now (length c.args.is_open.now) c.args.self.now.engine (g.P.Places.world c.args.places.now)
     (record { bytes = g.K.Sink.written c.args.out.now; faults = g.K.Sink.faults c.args.out.now; late = g.K.Sink.late c.args.out.now }) in
     let going = c.loop-time.invariant.going in
     let r = c.in_ok-goes_on.ensures.cells z refl (sym c.loop-time.auto.is_open) going.standing c.loop-time.invariant.marked in
