@@ -1,5 +1,5 @@
 -- What is made is found right.
-use Rattle.lucid_cert.proofs.Common.{◌≡◌, ℕ, suc, ◌<◌, ◌⊎◌, Bool, true, false, cond, List, [], ◌∷◌, length, length-map, Option, Some, None, refl, sym, ap, ◌∙◌, inl, inr, subst, arith, Result, Ok, Err, IfErr, IfSome, slice_get, option_map, none-some, same_Some, slice_get-get_or, slice_get_within, PlainValue, Elements, AllDiffer, World, stream_at, streams, Inputs, Context, row-node, row_at, IsInRange, Input, Table, extends_then, PlainJudgment, Why, FollowsIn, used, MayBe, stream_there, Made, view_of}
+use Rattle.lucid_cert.proofs.Common.{◌≡◌, ℕ, suc, ◌<◌, ◌⊎◌, true, false, cond, List, [], ◌∷◌, length, length-map, Option, Some, None, refl, sym, ap, ◌∙◌, inl, inr, subst, arith, Result, Ok, Err, IfErr, IfSome, slice_get, option_map, none-some, same_Some, slice_get-get_or, slice_get_within, PlainValue, Elements, AllDiffer, World, stream_at, streams, Inputs, Context, row-node, row_at, IsInRange, Input, Table, extends_then, PlainJudgment, Why, FollowsIn, used, MayBe, stream_there, Made, view_of}
 use Rattle.std.proofs.Common.{get_or}
 use Rattle.std.proofs.lemmas.Option.{get_or_from_slice_get, slice_get-map}
 use Rattle.std.specs.Prelude.{unwrap_or}

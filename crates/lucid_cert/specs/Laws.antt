@@ -1,5 +1,5 @@
 -- What is made is found right.
-use Rattle.std.specs.Prelude.{◌≡◌, ℕ, ◌<◌, ◌⊎◌, Option, Some, None, Result, Ok, IfErr, length}
+use Rattle.std.specs.Prelude.{◌≡◌, ℕ, ◌<◌, ◌⊎◌, Option, Some, Result, Ok, IfErr, length}
 use Rattle.lucid_tree.specs.Members.{AllDiffer}
 use Rattle.lucid_ports.specs.World.{Contents, World}
 use Rattle.lucid_inputs.specs.declared.on_demand.Inputs.{Inputs}

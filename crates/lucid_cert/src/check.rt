@@ -45,6 +45,13 @@ struct Check<'a> {
     contexts: Vec<Option<Tag>>,
 }
 
+// A use in its turn: the look that stands next, and the number that the judgment tells for it.
+#[derive(Clone, Copy)]
+struct NextUse {
+    look: Look,
+    number: u64,
+}
+
 impl<'a> Check<'a> {
     ghost use Rattle.lucid_cert.specs.Checks.{judgments_of, contexts_in, HasRow, IsSound, IsSameCheck};
 
@@ -90,30 +97,23 @@ impl<'a> Check<'a> {
     }
 
     // The value of the next use, where it is one of the look that stands next.
-    fn looked_at(
-        &self,
-        before: usize,
-        node: Node,
-        context: Tag,
-        look: Look,
-        number: u64,
-    ) -> Option<&'a Value>
+    fn looked_at(&self, before: usize, node: Node, context: Tag, next: NextUse) -> Option<&'a Value>
         requires sound { IsSound self.now }
         requires before { before ≤ length (judgments_of self.now) }
         requires there { IsOfContext self.now.tags context }
-        ensures earlier { IfSome result (λ _. number < before) }
-        ensures told { IfSome result (λ v. plain v.now ≡ told (judgments_of self.now) number) }
+        ensures earlier { IfSome result (λ _. next.number < before) }
+        ensures told { IfSome result (λ v. plain v.now ≡ told (judgments_of self.now) next.number) }
         ensures value { (id : ℕ) → row_at (table_of self.now.program.now) id ≡ Some node
-            → option_map (λ v. plain v.now) result ≡ of_part (table_of self.now.program.now) (used (contexts_in self.now) (judgments_of self.now) before) id (context_of self.now.tags context) (plain_look look) number }
+            → option_map (λ v. plain v.now) result ≡ of_part (table_of self.now.program.now) (used (contexts_in self.now) (judgments_of self.now) before) id (context_of self.now.tags context) (plain_look next.look) next.number }
     {
         let parts = node.parts();
-        let node = *parts.as_slice().get(look.part as usize)?;
+        let node = *parts.as_slice().get(next.look.part as usize)?;
         let at = Position {
             node,
             context,
-            time: look.time,
+            time: next.look.time,
         };
-        self.used(before, at, look.space, number)
+        self.used(before, at, next.look.space, next.number)
     }
 
     // What is left of the plan of a form once it is fed by the judgment's uses; nothing where one isn't that of the look that stands next.
@@ -132,7 +132,11 @@ impl<'a> Check<'a> {
             let Rest::Look(look) = rest else {
                 return None;
             };
-            let value = self.looked_at(before, node, context, look, *number)?;
+            let next = NextUse {
+                look,
+                number: *number,
+            };
+            let value = self.looked_at(before, node, context, next)?;
             rest = look.go_on(value);
         }
         Some(rest)

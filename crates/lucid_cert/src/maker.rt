@@ -1,10 +1,9 @@
 //! A certificate in the making, and the steps of the walk by which it is made.
-ghost use Rattle.std.specs.Prelude.{◌≡◌, ℕ, ◌<◌, ◌≤◌, ◌^◌, [], Some, None, map, length, ◌++◌, ◌∷◌, IfOk, OnOk, IfErr, IfSome, IfNone, option_to_list};
+ghost use Rattle.std.specs.Prelude.{◌≡◌, ℕ, ◌<◌, ◌≤◌, ◌^◌, [], Some, map, length, ◌++◌, ◌∷◌, IfOk, OnOk, IfErr, IfSome, IfNone, option_to_list};
 ghost use Rattle.std.specs.List.{AllByRecursion};
 ghost use Rattle.lucid_value.specs.View.{plain};
 ghost use Rattle.lucid_tree.specs.Rows.{last};
 ghost use Rattle.lucid_tree.specs.Levels.{Elements};
-ghost use Rattle.lucid_tags.specs.Contexts.{Context};
 ghost use Rattle.lucid_tags.specs.Contexts.{root as empty_context};
 ghost use Rattle.lucid_tags.specs.Known.{context_of, number_of, space_of};
 ghost use Rattle.lucid_equations.specs.Programs.{table_of};
@@ -23,7 +22,7 @@ ghost use Rattle.lucid_cert.specs.Uses.{told, gives_only};
 ghost use Rattle.lucid_cert.specs.Makings.{HasUse};
 
 use crate::elements::element;
-use crate::making::{Making, Next, is_allowed};
+use crate::making::{Making, Next, Spot, is_allowed};
 use crate::{applied, told};
 use indexmap::IndexSet;
 use lucid_cert_rules::{
@@ -277,25 +276,24 @@ impl<'a> Maker<'a> {
         places: &mut P,
         inputs: &mut Inputs,
         stream: u32,
-        at: Position,
-        space: u64,
+        spot: Spot,
     ) -> Result<(), DemandFault>
         requires sound { IsSound self.old }
-        requires may { MayJudge (table_in self.old) self.old.tags at space }
-        requires row { row_at (table_in self.old) at.node ≡ Some (Input stream) }
-        requires meaning { node_at (table_in self.old) at.node ≡ node_by (table_in self.old) (Input stream) }
+        requires may { MayJudge (table_in self.old) self.old.tags spot.at spot.space }
+        requires row { row_at (table_in self.old) spot.at.node ≡ Some (Input stream) }
+        requires meaning { node_at (table_in self.old) spot.at.node ≡ node_by (table_in self.old) (Input stream) }
         requires stream { stream < length (table_in self.old).inputs }
         requires streams { length (streams inputs.old) ≡ length (table_in self.old).inputs }
         requires askable { AreAskable (streams inputs.old) (P.world places.old) }
-        ensures goes { OnOk result (Goes self.old self.new at space) }
+        ensures goes { OnOk result (Goes self.old self.new spot.at spot.space) }
         ensures follow { OnOk result ((b : Elements) → MayBe (table_in self.old) inputs.new b → AreFollowing b self.old → AreFollowing b self.new) }
-        ensures reads { ReadsElement (Unit {0}) inputs.old inputs.new stream at.time (P.world places.old) (P.world places.new) result }
+        ensures reads { ReadsElement (Unit {0}) inputs.old inputs.new stream spot.at.time (P.world places.old) (P.world places.new) result }
         ensures wanted { OnOk result ((b : Elements) (root : PlainTask) → AreWanted b root self.old → AreWanted b root self.new) }
     {
         // The names of the inputs differ.
         let _ = self.program.table();
-        let value = element(self.alloc, places, inputs, stream, at.time)?;
-        Ok(self.make(at, space, Vec::new(self.alloc), value)?)
+        let value = element(self.alloc, places, inputs, stream, spot.at.time)?;
+        Ok(self.make(spot.at, spot.space, Vec::new(self.alloc), value)?)
     }
 
     // The judgment waits for what a frozen time, a reference or a call goes on with, so many references further on.
@@ -339,35 +337,37 @@ impl<'a> Maker<'a> {
         &mut self,
         places: &mut P,
         inputs: &mut Inputs,
-        at: Position,
-        space: u64,
+        spot: Spot,
         limit: u32,
     ) -> Result<(), DemandFault>
         requires sound { IsSound self.old }
-        requires may { MayJudge (table_in self.old) self.old.tags at space }
+        requires may { MayJudge (table_in self.old) self.old.tags spot.at spot.space }
         requires streams { length (streams inputs.old) ≡ length (table_in self.old).inputs }
         requires askable { AreAskable (streams inputs.old) (P.world places.old) }
-        ensures goes { OnOk result (Goes self.old self.new at space) }
+        ensures goes { OnOk result (Goes self.old self.new spot.at spot.space) }
         ensures follow { OnOk result ((b : Elements) → MayBe (table_in self.old) inputs.new b → AreFollowing b self.old → AreFollowing b self.new) }
-        ensures reads { ReadsFor (table_in self.old) at limit inputs.old inputs.new (P.world places.old) (P.world places.new) result }
-        ensures wanted { (b : Elements) (root : PlainTask) → IsInRange (table_in self.old) → IsWanted (table_in self.old) b root (task_at self.old.tags at space limit)
+        ensures reads { ReadsFor (table_in self.old) spot.at limit inputs.old inputs.new (P.world places.old) (P.world places.new) result }
+        ensures wanted { (b : Elements) (root : PlainTask) → IsInRange (table_in self.old) → IsWanted (table_in self.old) b root (task_at self.old.tags spot.at spot.space limit)
             → AreWanted b root self.old → StaysWanted b root self.old self.new result }
     {
-        let node = self.program.node(at.node);
+        let node = self.program.node(spot.at.node);
         let making = Making {
-            at,
-            space,
+            at: spot.at,
+            space: spot.space,
             limit,
             uses: Vec::new(self.alloc),
-            next: Next::Position { at, references: 0 },
+            next: Next::Position {
+                at: spot.at,
+                references: 0,
+            },
         };
         match node {
             Node::Input { .. } if limit == 0 => Err(DemandFault::TooDeep),
-            Node::Input { stream } => self.read(places, inputs, stream, at, space),
+            Node::Input { stream } => self.read(places, inputs, stream, spot),
             Node::Freeze { .. } => self.wait_on(making, node, 0),
             Node::Refer { .. } | Node::Call { .. } => self.wait_on(making, node, 1),
             _ => {
-                let rest = begin(self.program, node, at.time, space);
+                let rest = begin(self.program, node, spot.at.time, spot.space);
                 self.go_on(making, rest)
             }
         }
@@ -434,7 +434,7 @@ impl<'a> Maker<'a> {
         let Some(number) = self.number_of(at, space) else {
             let limit = making.limit - references;
             self.wait(making)?;
-            return self.start(places, inputs, at, space, limit);
+            return self.start(places, inputs, Spot { at, space }, limit);
         };
         self.uses(making, number)
     }

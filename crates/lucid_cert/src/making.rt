@@ -14,6 +14,13 @@ pub(crate) enum Next {
     Position { at: Position, references: u32 },
 }
 
+/// A node in a context at a point.
+#[derive(Clone, Copy)]
+pub(crate) struct Spot {
+    pub(crate) at: Position,
+    pub(crate) space: u64,
+}
+
 /// A judgment in the making: a node in a context at a point, how many references deep it may look, the uses so far, and what it wants next.
 #[derive(Drop)]
 pub(crate) struct Making {

@@ -7,6 +7,7 @@ ghost use Rattle.lucid_cert.specs.Certified.{Made};
 ghost use Rattle.lucid_cert.specs.Drawn.{AsDemanded};
 
 use crate::maker::Maker;
+use crate::making::Spot;
 use lucid_cert_rules::Why;
 use lucid_demand_steps::DemandFault;
 use lucid_equations::Program;
@@ -37,7 +38,8 @@ pub fn certify<P: Places>(
     lucid_inputs::places_differ();
     let mut maker = Maker::new(alloc, program);
     let root = maker.root(time);
-    maker.start(places, inputs, root, 0, limit)?;
+    let spot = Spot { at: root, space: 0 };
+    maker.start(places, inputs, spot, limit)?;
     'walk: for _ in 0..u64::MAX {
         let Some(making) = maker.innermost() else {
             return Ok(maker.finish(root)?);

@@ -42,9 +42,9 @@ begin-rest-requires-clause-form g c = is_form c.node-node.result c.in_default.no
 
 pub go_on-requires-clause-forming : goal.go_on-requires-clause-forming
 go_on-requires-clause-forming g c =
-    subst (λ (us : List ℕ). IsForming (table_in c.args.self.now) c.args.self.now.tags (judgments_of c.args.self.now) c.args.at c.args.space us
+    subst (λ (us : List ℕ). IsForming (table_in c.args.self.now) c.args.self.now.tags (judgments_of c.args.self.now) c.args.spot.at c.args.spot.space us
     c.begin-rest.result) (sym c.new.ensures.items)
-    (forming_begins (table_in c.args.self.now) c.args.self.now.tags (judgments_of c.args.self.now) c.args.at c.args.space c.node-node.result
+    (forming_begins (table_in c.args.self.now) c.args.self.now.tags (judgments_of c.args.self.now) c.args.spot.at c.args.spot.space c.node-node.result
     c.node-node.ensures.row c.node-node.ensures.meaning c.begin-rest.result
     (is_form c.node-node.result c.in_default.not-Input c.in_default.not-Freeze c.in_default.not-Refer c.in_default.not-Call) c.begin-rest.ensures.plan
     c.begin-rest.ensures.stands
@@ -56,7 +56,7 @@ returns-clause-reads g c = nothing_read refl refl c.go_on.ensures.own
 -- What waits stays wanted.
 pub returns-in-Input-clause-wanted : goal.returns-in-Input-clause-wanted
 returns-in-Input-clause-wanted g c b root range own all =
-    input_refused b root c.args.self.now c.args.self.now range c.args.at c.args.space c.args.limit _ (c.node-node.ensures.row ∙ ap Some c.in-Input.is)
+    input_refused b root c.args.self.now c.args.self.now range c.args.spot.at c.args.spot.space c.args.limit _ (c.node-node.ensures.row ∙ ap Some c.in-Input.is)
     (omega arith) own
 
 pub returns-in-Input-2-clause-wanted : goal.returns-in-Input-2-clause-wanted
@@ -73,7 +73,7 @@ returns-in-Refer-clause-wanted g c b root range own all = c.wait_on-in-Refer.ens
 pub returns-clause-wanted : goal.returns-clause-wanted
 returns-clause-wanted g c b root range own all =
     c.go_on.ensures.wanted b root range own
-    (has_begun (table_in c.args.self.now) range b (task_at c.args.self.now.tags c.args.at c.args.space c.args.limit) c.node-node.result c.begin-rest.result
+    (has_begun (table_in c.args.self.now) range b (task_at c.args.self.now.tags c.args.spot.at c.args.spot.space c.args.limit) c.node-node.result c.begin-rest.result
     c.node-node.ensures.row
     (is_form c.node-node.result c.in_default.not-Input c.in_default.not-Freeze c.in_default.not-Refer c.in_default.not-Call) c.begin-rest.ensures.plan
     c.begin-rest.ensures.stands) all
