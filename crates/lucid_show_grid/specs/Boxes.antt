@@ -18,7 +18,7 @@ corner Inner = 4
 corner Leaf = 15
 corner (Test h) = 0
 
--- what the output is has a thick edge
+-- what the output needed has a thick edge
 unfoldable pub output_text : (is_output : Bool) → List ℕ
 output_text b = if b then codes " output" else []
 

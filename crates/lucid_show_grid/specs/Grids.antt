@@ -7,7 +7,7 @@ use Rattle.lucid_show_grid.specs.declared.grid.Panel.{Panel}
 use Rattle.lucid_show_grid.specs.declared.grid.Arrow.{Arrow}
 use Rattle.lucid_show_grid.specs.declared.grid.Grid.{Grid}
 
--- a value: its time, what it is in the demand, whether it is what the output is, its text, and what is told of it where it is pointed at
+-- a value: its time, what it is in the demand, whether the output needed it itself, its text, and what is told of it where it is pointed at
 pub record PlainMark : Type 0 where
   pub time : ℕ
   pub kind : Kind
@@ -18,7 +18,7 @@ pub record PlainMark : Type 0 where
 abbrev pub plain_mark : Mark → PlainMark
 plain_mark m = record { time = m.time; kind = m.kind; is_output = m.is_output; value = m.value.items; told = m.told.items }
 
--- a name and its values
+-- a name, or a test's text, and its values
 pub record PlainLine : Type 0 where
   pub label : List ℕ
   pub marks : List PlainMark

@@ -51,14 +51,14 @@ right_edge n (p ∷ ps) = right_edge (max n (across (frame_of 0 p) p + 40)) ps
 
 -- what the picture is, for readers of screens
 unfoldable pub about : List ℕ
-about = codes "</title>\n<desc>A box for each value that was asked for, in the line of its name and the column of its time, and an arrow from each value to each that it was computed from. The box with the thick edge is what the output is. A round box needed no other value. A box with sharp corners is a test of a search, with a dashed edge where it isn't true.</desc>\n"
+about = codes "</title>\n<desc>A box for each value that was asked for and each test of a search, in the line of its name or its text and the column of its time, and an arrow from each box to each that it needed. A box with a thick edge was needed by the output itself. A round box needed no other. A box with sharp corners is a test of a search, with a dashed edge where it isn't true.</desc>\n"
 
 unfoldable pub style : List ℕ
-style = codes "<style type=\"text/css\">.panel{fill:#f7f7f7;stroke:#999}.title{font-size:12px;fill:#222}.time{font-size:12px;text-anchor:middle;fill:#222}.label,.value{font-family:DejaVu Sans Mono,monospace;fill:#000}.value{text-anchor:middle}.arrow,.key-arrow{fill:none;stroke:#1f4e8c;stroke-width:1.4;marker-end:url(#head)}.inner,.key-inner{fill:#fff;stroke:#222}.leaf,.key-leaf{fill:#dff0d8;stroke:#2d6a2d}.true,.key-true{fill:#b9e3b9;stroke:#1d5a1d}.false,.key-false{fill:#f6d9d9;stroke:#8c1f1f;stroke-dasharray:5 3}.output,.key-output{fill:#ffe9b3;stroke:#7a4a00;stroke-width:3}.heading{font-size:15px}.key{font-size:12px}</style>\n<defs><marker id=\"head\" markerWidth=\"9\" markerHeight=\"9\" refX=\"8\" refY=\"4\" orient=\"auto\"><path d=\"M 0 0 L 8 4 L 0 8 z\" fill=\"#1f4e8c\"/></marker></defs>\n<rect width=\"100%\" height=\"100%\" fill=\"#fff\"/>\n"
+style = codes "<style type=\"text/css\">.panel{fill:#f7f7f7;stroke:#999}.title{font-size:12px;fill:#222}.time{font-size:12px;text-anchor:middle;fill:#222}.label,.value{font-family:DejaVu Sans Mono,monospace;fill:#000}.value{text-anchor:middle}.arrow,.key-arrow{fill:none;stroke:#1f4e8c;stroke-width:1.4;marker-end:url(#head)}.inner,.key-inner{fill:#fff;stroke:#222}.leaf,.key-leaf{fill:#dff0d8;stroke:#2d6a2d}.output,.key-output{fill:#ffe9b3;stroke:#7a4a00;stroke-width:3}.true,.key-true{fill:#b9e3b9;stroke:#1d5a1d}.false,.key-false{fill:#f6d9d9;stroke:#8c1f1f;stroke-dasharray:5 3}.heading{font-size:15px}.key{font-size:12px}</style>\n<defs><marker id=\"head\" markerWidth=\"9\" markerHeight=\"9\" refX=\"8\" refY=\"4\" orient=\"auto\"><path d=\"M 0 0 L 8 4 L 0 8 z\" fill=\"#1f4e8c\"/></marker></defs>\n<rect width=\"100%\" height=\"100%\" fill=\"#fff\"/>\n"
 
 -- what each kind of box is, at the foot
 unfoldable pub key : List ℕ
-key = codes ")\"><rect class=\"key-output\" width=\"24\" height=\"16\" rx=\"4\"/><text class=\"key\" x=\"32\" y=\"13\">what the output is</text><rect class=\"key-leaf\" x=\"170\" width=\"24\" height=\"16\" rx=\"8\"/><text class=\"key\" x=\"202\" y=\"13\">needed no other</text><rect class=\"key-true\" x=\"330\" width=\"24\" height=\"16\"/><rect class=\"key-false\" x=\"362\" width=\"24\" height=\"16\"/><text class=\"key\" x=\"394\" y=\"13\">test of a search: true, not true</text><path class=\"key-arrow\" d=\"M 606 8 L 632 8\"/><text class=\"key\" x=\"640\" y=\"13\">needed</text></g>\n"
+key = codes ")\"><rect class=\"key-output\" width=\"24\" height=\"16\" rx=\"4\"/><text class=\"key\" x=\"32\" y=\"13\">needed by the output</text><rect class=\"key-leaf\" x=\"180\" width=\"24\" height=\"16\" rx=\"8\"/><text class=\"key\" x=\"212\" y=\"13\">needed no other</text><rect class=\"key-true\" x=\"340\" width=\"24\" height=\"16\"/><rect class=\"key-false\" x=\"372\" width=\"24\" height=\"16\"/><text class=\"key\" x=\"404\" y=\"13\">test of a search: true, not true</text><path class=\"key-arrow\" d=\"M 616 8 L 642 8\"/><text class=\"key\" x=\"650\" y=\"13\">needed</text></g>\n"
 
 unfoldable pub size_text : (width height : ℕ) → List ℕ
 size_text w h =

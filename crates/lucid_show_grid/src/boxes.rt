@@ -33,7 +33,7 @@ fn corner(kind: Kind) -> u64
     }
 }
 
-// By which style, beside that of its kind, what the output is is drawn.
+// By which style, beside that of its kind, what the output needed is drawn.
 #[tactic(auto, unfolding(crate::specs::Boxes::output_text))]
 fn output_class(is_output: bool) -> &'static [u8]
     ensures { result.now ≡ output_text is_output }

@@ -1,6 +1,6 @@
 //! Grids.
 
-/// What a value is in a demand.
+/// What a box is in a demand.
 #[derive(Clone, Copy)]
 pub enum Kind {
     /// It needed other values.
@@ -11,7 +11,7 @@ pub enum Kind {
     Test { holds: bool },
 }
 
-/// A value: its time, what it is, whether it is what the output is, its text, and what is told of it where it is pointed at.
+/// A value: its time, what it is, whether the output needed it itself, its text, and what is told of it where it is pointed at.
 #[derive(Drop)]
 pub struct Mark {
     pub time: u64,
@@ -21,7 +21,7 @@ pub struct Mark {
     pub told: Vec<u8>,
 }
 
-/// A line of a panel: a name, and its values.
+/// A line of a panel: a name, or a test's text, and its values.
 #[derive(Drop)]
 pub struct Line {
     pub label: Vec<u8>,
