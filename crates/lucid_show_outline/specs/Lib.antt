@@ -5,6 +5,7 @@ pub mod Asked
 pub mod Tests
 pub mod Runs
 pub mod Equations
+pub mod Searches
 pub mod Chosen
 pub mod Lines
 pub mod Laws

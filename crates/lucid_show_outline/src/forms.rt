@@ -1,5 +1,5 @@
 //! The text of a judgment by those of the judgments that it uses.
-ghost use Rattle.std.specs.Prelude.{◌≡◌, ◌++◌, IfOk, OnOk};
+ghost use Rattle.std.specs.Prelude.{◌≡◌, ◌≤◌, ◌++◌, length, IfOk, OnOk};
 ghost use Rattle.lucid_value.specs.View.{plain};
 ghost use Rattle.lucid_show_outline.specs.Values.{value_shown, constant_shown};
 ghost use Rattle.lucid_show_outline.specs.Equations.{plain_part, plain_parts, tight, tests_of, found_of};
@@ -15,10 +15,11 @@ use lucid_print::put_tree;
 use lucid_value::Value;
 use std::alloc::AllocError;
 
-// The uses that are tests: all, or all but the last, which is found.
+/// The uses that are tests: all, or all but the last, which is found.
 #[tactic(auto, unfolding(crate::specs::Equations::tests_of))]
-fn tests_of(found: bool, uses: &[u64]) -> &[u64]
-    ensures { result.now ≡ tests_of found uses.now }
+pub(crate) fn tests_of(found: bool, uses: &[u64]) -> &[u64]
+    ensures value { result.now ≡ tests_of found uses.now }
+    ensures within { length result.now ≤ length uses.now }
 {
     if found {
         &uses[..uses.len().saturating_sub(1)]
@@ -36,7 +37,7 @@ fn found_of(found: bool, parts: &[Part]) -> &[Part]
 }
 
 impl<'a> Source<'a> {
-    ghost use Rattle.std.specs.Prelude.{◌-◌, ◌≤◌, length, slice_get};
+    ghost use Rattle.std.specs.Prelude.{◌-◌, slice_get};
     ghost use Rattle.lucid_ops.specs.Row.{plain_row};
     ghost use Rattle.lucid_cert_rules.specs.Certificates.{plain_judgment};
     ghost use Rattle.lucid_show_outline.specs.Views.{view_of, used};
@@ -198,9 +199,9 @@ impl<'a> Source<'a> {
         self.chosen_by(&test, &told, &row.value, parts)
     }
 
-    // Whether the last of the uses isn't of the part that is tested.
+    /// Whether the last of the uses isn't of the part that is tested.
     #[tactic(auto, unfolding(crate::specs::Equations::is_found))]
-    fn is_found(&self, test: u32, uses: &[u64]) -> bool
+    pub(crate) fn is_found(&self, test: u32, uses: &[u64]) -> bool
         ensures { result ≡ is_found test (used (view_of self.now) uses.now (length uses.now - 1)) }
     {
         match self.used(uses, uses.len().saturating_sub(1)) {
@@ -209,9 +210,9 @@ impl<'a> Source<'a> {
         }
     }
 
-    // Appends the piece that is tested.
+    /// Appends the text of a test, by the number of its node.
     #[tactic(auto, unfolding(crate::specs::Equations::tested_text))]
-    fn put_tested(&self, to: &mut Vec<u8>, test: u32) -> Result<(), AllocError>
+    pub fn put_tested(&self, to: &mut Vec<u8>, test: u32) -> Result<(), AllocError>
         ensures { OnOk result (to.new.items ≡ to.old.items ++ tested_text (slice_get (view_of self.now).pieces test)) }
     {
         match self.piece(test) {

@@ -19,5 +19,6 @@ mod outline;
 mod part;
 mod pieces;
 mod runs;
+mod searches;
 mod source;
 mod value;
