@@ -3,7 +3,6 @@ use Rattle.lucid_cert.proofs.CheckCommon.{◌≡◌, ℕ, ◌+◌, ◌<◌, ◌�
 use Rattle.lucid_cert_rules.specs.RestPlans.{by_then, look_plan, least_of, rest_plan, CanGoOn, Stands, AreFedAlike}
 use Rattle.lucid_cert.specs.Uses.{gives_only, plain_look, FedTo, FeedsTo}
 use Rattle.lucid_cert_rules.specs.declared.rest.Look.{Look}
-use Rattle.lucid_cert_rules.specs.declared.rest.Then.TheVariants as then
 use Rattle.lucid_cert_rules.specs.declared.rest.Rest.TheVariants as rest
 use Rattle.lucid_cert.proofs.Using.{fed_on}
 
