@@ -21,5 +21,9 @@ abbrev pub standing_line : List Candidate → List ℕ
 standing_line those =
     if length those == 0 then [] else codes "What may stand here: " ++ (join_by told_of (codes ", ") those ++ codes ".\n")
 
+-- what stands there, which tokens may stand there, and what was probably meant
+abbrev pub around_text : PlainAround → List Candidate → List ℕ
+around_text a those = read_line a.read ++ (standing_line those ++ hint a those)
+
 abbrev pub syntax_text : (file source : List ℕ) → (at : ℕ) → PlainAround → List Candidate → List ℕ
-syntax_text file source at a those = place_text file source at ++ (read_line a.read ++ (standing_line those ++ hint a those))
+syntax_text file source at a those = place_text file source at ++ around_text a those

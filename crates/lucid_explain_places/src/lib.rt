@@ -6,7 +6,7 @@ pub use crate::candidates::{Candidate, standing};
 pub use crate::hints::is_capital;
 pub use crate::position::{Position, position_of};
 pub use crate::shown::{put_place, put_shown};
-pub use crate::syntax::put_syntax;
+pub use crate::syntax::explain_syntax;
 pub use crate::texts::{put_number, put_where};
 
 mod around;

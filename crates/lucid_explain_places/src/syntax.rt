@@ -1,12 +1,12 @@
 //! What is said of tokens that spell no program.
-ghost use Rattle.std.specs.Prelude.{◌≡◌, ◌≤◌, ◌++◌, List, length, codes, OnOk};
+ghost use Rattle.std.specs.Prelude.{◌≡◌, ◌≤◌, ◌++◌, List, length, codes, IfOk, OnOk};
 ghost use Rattle.std.specs.List.{join_by};
 ghost use Rattle.lucid_scan.specs.Refusals.{most_source_bytes};
 ghost use Rattle.lucid_scan.specs.Tokens.{Tokens};
 ghost use Rattle.lucid_explain_places.specs.declared.candidates.Candidate.{Candidate as Told};
 ghost use Rattle.lucid_explain_places.specs.Standing.{AreStanding};
 ghost use Rattle.lucid_explain_places.specs.Around.{plain_around, around_at};
-ghost use Rattle.lucid_explain_places.specs.Syntax.{read_line, told_of, standing_line, syntax_text};
+ghost use Rattle.lucid_explain_places.specs.Syntax.{read_line, told_of, standing_line, around_text, syntax_text};
 
 use crate::around::{Around, around_at};
 use crate::candidates::{Candidate, standing};
@@ -56,42 +56,38 @@ fn put_standing(text: &mut Vec<u8>, those: &[Candidate]) -> Result<(), AllocErro
 }
 
 // Appends what is said of a place about which this stands, and at which those may stand.
-fn put_said(
+fn put_around(
     alloc: Global,
     text: &mut Vec<u8>,
-    file: &[u8],
-    source: &[u8],
-    at: u32,
     around: &Around<'_>,
     those: &[Candidate],
 ) -> Result<(), AllocError>
-    requires within { at ≤ length source.now }
-    requires short { length source.now ≤ most_source_bytes }
-    ensures { OnOk result (text.new.items ≡ text.old.items ++ syntax_text file.now source.now at (plain_around around.now) those.now) }
+    ensures { OnOk result (text.new.items ≡ text.old.items ++ around_text (plain_around around.now) those.now) }
 {
-    put_place(text, file, source, at as usize)?;
     put_read(text, around.read)?;
     put_standing(text, those)?;
     text.extend_from_slice(hint(alloc, around, those)?)
 }
 
-/// Appends what is said of the tokens of a source that go wrong at the place: what stands there; some of the tokens that may stand there, at
-/// most six, with each of which some program goes on; and what was probably meant.
-pub fn put_syntax(
+/// What is said of the tokens of a source that go wrong at the place: what stands there; some of the tokens that may stand there, at most six,
+/// with each of which some program goes on; and what was probably meant.
+pub fn explain_syntax(
     alloc: Global,
-    text: &mut Vec<u8>,
     file: &[u8],
     source: &[u8],
     tokens: &[Token],
     at: u32,
-) -> Result<(), AllocError>
+) -> Result<Vec<u8>, AllocError>
     requires within { at ≤ length source.now }
     requires short { length source.now ≤ most_source_bytes }
     requires scanned { Tokens source.now 0 tokens.now }
-    ensures { OnOk result ((those : List Told) × AreStanding source.now at those
-        × (text.new.items ≡ text.old.items ++ syntax_text file.now source.now at (around_at source.now tokens.now at) those)) }
+    ensures { IfOk result (λ text. (those : List Told) × AreStanding source.now at those
+        × (text.items ≡ syntax_text file.now source.now at (around_at source.now tokens.now at) those)) }
 {
     let around = around_at(source, tokens, at);
     let those = standing(alloc, source, at as usize)?;
-    put_said(alloc, text, file, source, at, &around, &those)
+    let mut text = Vec::new(alloc);
+    put_place(&mut text, file, source, at as usize)?;
+    put_around(alloc, &mut text, &around, &those)?;
+    Ok(text)
 }

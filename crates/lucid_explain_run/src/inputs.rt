@@ -38,6 +38,14 @@ pub struct Lacking<'a> {
     pub is_capital: bool,
 }
 
+/// Which inputs are sought: those of a program that have no file among those given, and stand before the end.
+#[derive(Clone, Copy)]
+pub(crate) struct Sought<'a> {
+    pub(crate) scoped: &'a Scoped,
+    pub(crate) given: &'a [Name],
+    pub(crate) end: u32,
+}
+
 // Whether the name at the place belongs to the input of this number.
 fn stands_at(scoped: &Scoped, stream: u32, at: u32) -> bool
     ensures yes { IsTrue result → StandsAt scoped.now stream at }
@@ -171,23 +179,21 @@ fn elsewhere_of<'a>(
 // The input of this number, which has this name, as one without a file; none where it stands nowhere.
 fn lacking_of<'a>(
     alloc: Global,
-    scoped: &'a Scoped,
+    sought: &Sought<'a>,
     name: &'a Name,
     stream: u32,
-    end: u32,
-    given: &[Name],
 ) -> Result<Option<Lacking<'a>>, AllocError>
-    requires named { slice_get (scoped_inputs scoped.now) stream ≡ Some name.now }
-    requires free { Contains given.now name.now → ⊥ }
-    ensures lacking { IfOk result (λ found. IfSome found (IsLacking scoped.entry.now given.now stream)) }
+    requires named { slice_get (scoped_inputs sought.now.scoped.now) stream ≡ Some name.now }
+    requires free { Contains sought.now.given.now name.now → ⊥ }
+    ensures lacking { IfOk result (λ found. IfSome found (IsLacking sought.now.scoped.now sought.now.given.now stream)) }
     ensures named { IfOk result (λ found. IfSome found (λ l. l.name.now ≡ name.entry.now)) }
-    ensures none { IfOk result (λ found. IfNone found (IsWanted scoped.entry.now given.now end stream name.entry.now → ⊥)) }
+    ensures none { IfOk result (λ found. IfNone found (IsWanted sought.now.scoped.now sought.now.given.now sought.now.end stream name.entry.now → ⊥)) }
 {
-    let Some(at) = first_place(scoped, stream, end) else {
+    let Some(at) = first_place(sought.scoped, stream, sought.end) else {
         return Ok(None);
     };
-    let near = near_of(alloc, scoped, name.bytes(), at)?;
-    let elsewhere = elsewhere_of(alloc, scoped, name.bytes())?;
+    let near = near_of(alloc, sought.scoped, name.bytes(), at)?;
+    let elsewhere = elsewhere_of(alloc, sought.scoped, name.bytes())?;
     let is_capital = is_capital(alloc, name.bytes())?;
     Ok(Some(Lacking {
         name,
@@ -208,26 +214,24 @@ fn is_given(given: &[Name], name: &Name) -> bool
 // The same where there is room and no file is given for it.
 fn lacking_if<'a>(
     alloc: Global,
-    scoped: &'a Scoped,
+    sought: &Sought<'a>,
     name: &'a Name,
     stream: u32,
-    given: &[Name],
-    end: u32,
     room: usize,
 ) -> Result<Option<Lacking<'a>>, AllocError>
-    requires { slice_get (scoped_inputs scoped.now) stream ≡ Some name.now }
+    requires { slice_get (scoped_inputs sought.now.scoped.now) stream ≡ Some name.now }
     ensures few { IfOk result (λ found. length (option_to_list found) ≤ room) }
     ensures first { IfOk result (λ found. (names : List (List ℕ)) (those : List Told)
-        → AreFirst scoped.entry.now given.now end (room - length (option_to_list found)) (stream + 1) names those
-        → AreFirst scoped.entry.now given.now end room stream (name.entry.now ∷ names) (option_to_list found ++ those)) }
+        → AreFirst sought.now.scoped.now sought.now.given.now sought.now.end (room - length (option_to_list found)) (stream + 1) names those
+        → AreFirst sought.now.scoped.now sought.now.given.now sought.now.end room stream (name.entry.now ∷ names) (option_to_list found ++ those)) }
 {
     if room == 0 {
         return Ok(None);
     }
-    if is_given(given, name) {
+    if is_given(sought.given, name) {
         return Ok(None);
     }
-    match lacking_of(alloc, scoped, name, stream, end, given)? {
+    match lacking_of(alloc, sought, name, stream)? {
         Some(lacking) => Ok(Some(lacking)),
         None => Ok(None),
     }
@@ -249,21 +253,19 @@ fn add_lacking<'a>(
     }
 }
 
-/// The inputs without a file among those given that stand before the end, or the first six of them.
+/// The inputs that are sought, or the first six of them.
 pub(crate) fn all_lacking<'a>(
     alloc: Global,
-    scoped: &'a Scoped,
-    end: u32,
-    given: &[Name],
+    sought: &Sought<'a>,
 ) -> Result<Vec<Lacking<'a>>, AllocError>
-    requires { length (scoped_inputs scoped.now) ≤ most_source_bytes }
-    ensures { IfOk result (λ those. AreLacking scoped.entry.now given.now end those.items) }
+    requires { length (scoped_inputs sought.now.scoped.now) ≤ most_source_bytes }
+    ensures { IfOk result (λ those. AreLacking sought.now.scoped.now sought.now.given.now sought.now.end those.items) }
 {
     let mut those = Vec::new(alloc);
     let mut stream = 0;
-    for name in scoped.inputs() {
+    for name in sought.scoped.inputs() {
         let room = MOST_TOLD - those.len();
-        let lacking = lacking_if(alloc, scoped, name, stream, given, end, room)?;
+        let lacking = lacking_if(alloc, sought, name, stream, room)?;
         add_lacking(&mut those, lacking)?;
         stream += 1;
     }
@@ -418,7 +420,12 @@ fn text_of(
     requires few { length (scoped_inputs scoped.now) ≤ most_source_bytes }
     ensures { IfOk result (λ text. TellsInputs source.now given.now text.items) }
 {
-    let those = all_lacking(alloc, scoped, source.len() as u32, given)?;
+    let sought = Sought {
+        scoped,
+        given,
+        end: source.len() as u32,
+    };
+    let those = all_lacking(alloc, &sought)?;
     let mut text = Vec::new(alloc);
     put_inputs(&mut text, source, &those)?;
     Ok(text)
@@ -463,7 +470,12 @@ fn text_of_free(alloc: Global, source: &[u8], scoped: &Scoped) -> Result<Vec<u8>
     requires few { length (scoped_inputs scoped.now) ≤ most_source_bytes }
     ensures { IfOk result (λ text. TellsFree source.now text.items) }
 {
-    let those = all_lacking(alloc, scoped, source.len() as u32, &[])?;
+    let sought = Sought {
+        scoped,
+        given: &[],
+        end: source.len() as u32,
+    };
+    let those = all_lacking(alloc, &sought)?;
     let mut text = Vec::new(alloc);
     put_free(&mut text, source, &those)?;
     Ok(text)

@@ -18,6 +18,15 @@ use lucid_scope::Scoped;
 use lucid_tree::Tree;
 use std::alloc::{AllocError, Global};
 
+// The judgment of a number of a certificate, from 0, of the source in a file of this name.
+#[derive(Clone, Copy)]
+struct Judged<'a> {
+    file: &'a [u8],
+    source: &'a [u8],
+    certificate: &'a [u8],
+    number: u64,
+}
+
 // A piece's own place.
 fn own_place(piece: &Tree) -> u32
     ensures { result ≡ own_place piece.now }
@@ -94,38 +103,28 @@ fn piece_of(alloc: Global, scoped: &Scoped, node: u32) -> Result<Option<&Tree>, 
 // What is said by what the names of the source belong to.
 fn text_of_scoped(
     alloc: Global,
-    file: &[u8],
-    source: &[u8],
-    certificate: &[u8],
-    number: u64,
+    judged: &Judged<'_>,
     row: Row,
     scoped: &Scoped,
 ) -> Result<Vec<u8>, AllocError>
-    requires short { length source.now ≤ most_source_bytes }
-    requires program { IsProgram source.now (scoped_tree scoped.now) }
-    requires row { IsRow certificate.now number row.node row.line }
-    ensures { IfOk result (λ text. TellsJudgment file.now source.now certificate.now number text.items) }
+    requires short { length judged.now.source.now ≤ most_source_bytes }
+    requires program { IsProgram judged.now.source.now (scoped_tree scoped.now) }
+    requires row { IsRow judged.now.certificate.now judged.now.number row.node row.line }
+    ensures { IfOk result (λ text. TellsJudgment judged.now.file.now judged.now.source.now judged.now.certificate.now judged.now.number text.items) }
 {
     let piece = piece_of(alloc, scoped, row.node)?;
     let mut text = Vec::new(alloc);
-    put_found(&mut text, file, source, row, piece)?;
+    put_found(&mut text, judged.file, judged.source, row, piece)?;
     Ok(text)
 }
 
 // What is said of a judgment of this node, in this line.
-fn text_of_row(
-    alloc: Global,
-    file: &[u8],
-    source: &[u8],
-    certificate: &[u8],
-    number: u64,
-    row: Row,
-) -> Result<Vec<u8>, AllocError>
-    requires { IsRow certificate.now number row.node row.line }
-    ensures { IfOk result (λ text. TellsJudgment file.now source.now certificate.now number text.items) }
+fn text_of_row(alloc: Global, judged: &Judged<'_>, row: Row) -> Result<Vec<u8>, AllocError>
+    requires { IsRow judged.now.certificate.now judged.now.number row.node row.line }
+    ensures { IfOk result (λ text. TellsJudgment judged.now.file.now judged.now.source.now judged.now.certificate.now judged.now.number text.items) }
 {
-    match scoped_of(alloc, source)? {
-        Some(scoped) => text_of_scoped(alloc, file, source, certificate, number, row, &scoped),
+    match scoped_of(alloc, judged.source)? {
+        Some(scoped) => text_of_scoped(alloc, judged, row, &scoped),
         None => Ok(Vec::new(alloc)),
     }
 }
@@ -141,8 +140,14 @@ pub fn explain_judgment(
 ) -> Result<Vec<u8>, AllocError>
     ensures { IfOk result (λ text. TellsJudgment file.now source.now certificate.now number text.items) }
 {
+    let judged = Judged {
+        file,
+        source,
+        certificate,
+        number,
+    };
     match row_of(alloc, certificate, number)? {
-        Some(row) => text_of_row(alloc, file, source, certificate, number, row),
+        Some(row) => text_of_row(alloc, &judged, row),
         None => Ok(Vec::new(alloc)),
     }
 }

@@ -1,5 +1,5 @@
 //! Explanations of what the command reports of a program that compiles: inputs that have no file, values that are too deep, and judgments of
-//! a certificate that don't follow, each with its piece of the source.
+//! a certificate that don't follow. Each judgment comes with its piece of the source.
 #![tactic(auto)]
 
 pub use crate::depth::{TooDeep, explain_depth};

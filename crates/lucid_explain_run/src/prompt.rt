@@ -5,7 +5,7 @@ ghost use Rattle.lucid_scope.specs.Scoped.{scoped_tree, scoped_inputs};
 ghost use Rattle.lucid_explain_source.specs.Accepted.{IsProgram};
 ghost use Rattle.lucid_explain_run.specs.Prompts.{begins_comment, is_divided, other_text, prompt_text, asked_text, read_text, only_text, are_others, TellsPrompt};
 
-use crate::inputs::{Lacking, all_lacking, put_meant};
+use crate::inputs::{Lacking, Sought, all_lacking, put_meant};
 use lucid_explain_source::{begins, name_front, put_name, scoped_of};
 use lucid_scope::Scoped;
 use lucid_value::Name;
@@ -120,7 +120,12 @@ fn text_of_scoped(
     requires few { length (scoped_inputs scoped.now) ≤ most_source_bytes }
     ensures { IfOk result (λ text. TellsPrompt source.now given.now text.items) }
 {
-    let those = all_lacking(alloc, scoped, source.len() as u32, given)?;
+    let sought = Sought {
+        scoped,
+        given,
+        end: source.len() as u32,
+    };
+    let those = all_lacking(alloc, &sought)?;
     let mut text = Vec::new(alloc);
     let is_read = are_others(given, scoped.inputs());
     put_only(&mut text, source, is_read, &those)?;

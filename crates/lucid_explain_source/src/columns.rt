@@ -6,13 +6,16 @@ ghost use Rattle.lucid_explain_source.specs.Scopes.{lent};
 ghost use Rattle.lucid_explain_source.specs.Columns.{outer_defs, outer_text, columns_text, TellsColumns};
 
 use crate::accepted::scoped_of;
-use crate::names::{MOST_TOLD, Wanted, put_advised};
+use crate::names::{Advice, MOST_TOLD, Wanted, put_advised};
 use crate::scopes::find_all;
 use lucid_tree::{Def, Shape, Tree};
 use std::alloc::{AllocError, Global};
 
-const COLUMNS: &[u8] =
-    b"A column is a name that the program's outermost block defines without parameters.\n";
+const COLUMNS: Advice = Advice {
+    says: b"A column is a name that the program's outermost block defines without parameters.\n",
+    wanted: Wanted::Columns,
+    most: MOST_TOLD,
+};
 
 // Finds the definitions of the outermost block.
 fn find_outer<'a>(found: &mut Vec<&'a Def>, tree: &'a Tree) -> Result<(), AllocError>
@@ -29,7 +32,7 @@ fn put_outer(text: &mut Vec<u8>, source: &[u8], defs: &[&Def]) -> Result<(), All
     requires { length source.now ≤ most_source_bytes }
     ensures { OnOk result (text.new.items ≡ text.old.items ++ outer_text source.now (lent defs.now)) }
 {
-    put_advised(text, source, defs, 0, COLUMNS, Wanted::Columns, MOST_TOLD)
+    put_advised(text, source, defs, 0, &COLUMNS)
 }
 
 // Appends what is said of the columns of a tree.

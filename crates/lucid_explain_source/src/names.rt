@@ -25,15 +25,8 @@ const TWICE: &[u8] =
 
 const PARAMETER: &[u8] = b"A list of parameters has each name once.\n";
 
-const NO_FUNCTION: &[u8] =
-    b"No function of this name is in scope here: define it, or mend its spelling.\n";
-
 const NOT_FUNCTION: &[u8] =
     b"What this name stands for here has no parameters: write it without arguments.\n";
-
-const IS_FUNCTION: &[u8] = b"This is a function: its arguments stand behind it in parentheses.\n";
-
-const ARITY: &[u8] = b"A call has as many arguments as the function has parameters.\n";
 
 /// Which definitions are told.
 #[derive(Clone, Copy)]
@@ -47,6 +40,38 @@ pub(crate) enum Wanted {
     /// Those of the name that are no functions.
     Plainly,
 }
+
+/// What is advised at a place, and which definitions are told behind it, at most so many.
+#[derive(Clone, Copy)]
+pub(crate) struct Advice {
+    pub(crate) says: &'static [u8],
+    pub(crate) wanted: Wanted,
+    pub(crate) most: usize,
+}
+
+const NO_FUNCTION: Advice = Advice {
+    says: b"No function of this name is in scope here: define it, or mend its spelling.\n",
+    wanted: Wanted::Functions,
+    most: MOST_TOLD,
+};
+
+const NO_PARAMETERS: Advice = Advice {
+    says: NOT_FUNCTION,
+    wanted: Wanted::Plainly,
+    most: 1,
+};
+
+const IS_FUNCTION: Advice = Advice {
+    says: b"This is a function: its arguments stand behind it in parentheses.\n",
+    wanted: Wanted::Named,
+    most: 1,
+};
+
+const ARITY: Advice = Advice {
+    says: b"A call has as many arguments as the function has parameters.\n",
+    wanted: Wanted::Named,
+    most: 1,
+};
 
 // How many bytes of a name stand at the beginning.
 fn len_of_name(rest: &[u8]) -> usize
@@ -121,42 +146,39 @@ fn put_one(
     }
 }
 
-// Appends the first of the definitions that are told, at most so many.
+// Appends the first of the definitions that are told with an advice at a place.
 #[tactic(auto, using(crate::proofs::Lent::told_more))]
 fn put_told(
     text: &mut Vec<u8>,
     source: &[u8],
     defs: &[&Def],
-    wanted: Wanted,
     at: u32,
-    most: usize,
+    advice: &Advice,
 ) -> Result<(), AllocError>
     requires { length source.now ≤ most_source_bytes }
-    ensures { OnOk result (text.new.items ≡ text.old.items ++ told_text source.now (fits wanted (name_at source.now at)) most (lent defs.now)) }
+    ensures { OnOk result (text.new.items ≡ text.old.items ++ told_text source.now (fits advice.now.wanted (name_at source.now at)) advice.now.most (lent defs.now)) }
 {
     let name = name_at(source, at);
-    let mut room = most;
+    let mut room = advice.most;
     for def in defs {
-        room = put_one(text, source, def, fits(wanted, name, def), room)?;
+        room = put_one(text, source, def, fits(advice.wanted, name, def), room)?;
     }
     Ok(())
 }
 
-/// Appends an advice at a place, and the first of the definitions that are told, at most so many.
+/// Appends an advice at a place, and the first of the definitions that are told with it.
 pub(crate) fn put_advised(
     text: &mut Vec<u8>,
     source: &[u8],
     defs: &[&Def],
     at: u32,
-    advice: &[u8],
-    wanted: Wanted,
-    most: usize,
+    advice: &Advice,
 ) -> Result<(), AllocError>
     requires { length source.now ≤ most_source_bytes }
-    ensures { OnOk result (text.new.items ≡ text.old.items ++ advised_text source.now (lent defs.now) at advice.now wanted most) }
+    ensures { OnOk result (text.new.items ≡ text.old.items ++ advised_text source.now (lent defs.now) at advice.now.says.now advice.now.wanted advice.now.most) }
 {
-    text.extend_from_slice(advice)?;
-    put_told(text, source, defs, wanted, at, most)
+    text.extend_from_slice(advice.says)?;
+    put_told(text, source, defs, at, advice)
 }
 
 // The definitions whose own name stands at the place.
@@ -326,7 +348,7 @@ fn put_not_function(
     if is_parameter(defs, name_at(source, at)) {
         text.extend_from_slice(NOT_FUNCTION)
     } else {
-        put_advised(text, source, defs, at, NOT_FUNCTION, Wanted::Plainly, 1)
+        put_advised(text, source, defs, at, &NO_PARAMETERS)
     }
 }
 
@@ -343,24 +365,10 @@ fn put_said(
 {
     match refusal {
         ScopeRefusal::Twice { at } => put_twice(alloc, text, source, defs, *at),
-        ScopeRefusal::NoFunction { at } => {
-            put_advised(
-                text,
-                source,
-                defs,
-                *at,
-                NO_FUNCTION,
-                Wanted::Functions,
-                MOST_TOLD,
-            )
-        }
+        ScopeRefusal::NoFunction { at } => put_advised(text, source, defs, *at, &NO_FUNCTION),
         ScopeRefusal::NotFunction { at } => put_not_function(text, source, defs, *at),
-        ScopeRefusal::IsFunction { at } => {
-            put_advised(text, source, defs, *at, IS_FUNCTION, Wanted::Named, 1)
-        }
-        ScopeRefusal::Arity { at, .. } => {
-            put_advised(text, source, defs, *at, ARITY, Wanted::Named, 1)
-        }
+        ScopeRefusal::IsFunction { at } => put_advised(text, source, defs, *at, &IS_FUNCTION),
+        ScopeRefusal::Arity { at, .. } => put_advised(text, source, defs, *at, &ARITY),
         ScopeRefusal::NoMemory => Ok(()),
     }
 }
@@ -379,22 +387,23 @@ fn place_of(refusal: &ScopeRefusal) -> u32
     }
 }
 
-/// Appends what is said of a tree whose names are refused: the place; what is wrong there; and the definition with which it is at odds, or the
-/// functions in scope.
-pub(crate) fn put_names(
+/// What is said of a tree whose names are refused: the place; what is wrong there; and the definition with which it is at odds, or the functions
+/// in scope.
+pub(crate) fn text_of_names(
     alloc: Global,
-    text: &mut Vec<u8>,
     file: &[u8],
     source: &[u8],
     tree: &Tree,
     refusal: &ScopeRefusal,
-) -> Result<(), AllocError>
+) -> Result<Vec<u8>, AllocError>
     requires { length source.now ≤ most_source_bytes }
-    ensures { OnOk result (text.new.items ≡ text.old.items ++ names_text file.now source.now tree.now refusal.now) }
+    ensures { IfOk result (λ text. text.items ≡ names_text file.now source.now tree.now refusal.now) }
 {
     let at = place_of(refusal);
     let mut defs = Vec::new(alloc);
     find_in_scope(&mut defs, tree, at)?;
-    put_place(text, file, source, source.len().min(at as usize))?;
-    put_said(alloc, text, source, &defs, refusal)
+    let mut text = Vec::new(alloc);
+    put_place(&mut text, file, source, source.len().min(at as usize))?;
+    put_said(alloc, &mut text, source, &defs, refusal)?;
+    Ok(text)
 }

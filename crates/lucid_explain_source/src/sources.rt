@@ -9,9 +9,9 @@ ghost use Rattle.lucid_explain_source.specs.Accepted.{IsSpelt, IsAccepted};
 ghost use Rattle.lucid_explain_source.specs.Sources.{nested_advice, depth_text, Explains};
 
 use crate::advice::put_scan;
-use crate::names::put_names;
+use crate::names::text_of_names;
 use crate::reported::{put_line_at, put_names_line, put_scan_line};
-use lucid_explain_places::{put_place, put_syntax};
+use lucid_explain_places::{explain_syntax, put_place};
 use lucid_parse::{ParseRefusal, parse};
 use lucid_scan::laws::tokens_are_in_order;
 use lucid_scan::{ScanRefusal, Token, scan};
@@ -69,8 +69,7 @@ fn said_of_syntax(
     tokens_are_in_order();
     let mut line = Vec::new(alloc);
     put_line_at(&mut line, b"syntax at ", at)?;
-    let mut text = Vec::new(alloc);
-    put_syntax(alloc, &mut text, file, source, tokens, at)?;
+    let text = explain_syntax(alloc, file, source, tokens, at)?;
     Ok(Explanation { line, text })
 }
 
@@ -138,8 +137,7 @@ fn said_of_names(
 {
     let mut line = Vec::new(alloc);
     put_names_line(&mut line, refusal)?;
-    let mut text = Vec::new(alloc);
-    put_names(alloc, &mut text, file, source, tree, refusal)?;
+    let text = text_of_names(alloc, file, source, tree, refusal)?;
     Ok(Explanation { line, text })
 }
 

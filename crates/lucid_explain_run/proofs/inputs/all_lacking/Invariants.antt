@@ -8,6 +8,6 @@ abbrev pub invariant-loop-name : goal.invariant-loop-name
 invariant-loop-name l = record {
   few : length l.those.items ≤ 6;
   number : l.stream ≡ l.name-index;
-  goes_on : (more : List Lacking) → AreFirst l.scoped l.given l.end (6 - length l.those.items) l.stream (drop l.name-index (scoped_inputs l.scoped)) more
-      → AreLacking l.scoped l.given l.end (l.those.items ++ more);
+  goes_on : (more : List Lacking) → AreFirst l.sought.scoped.now l.sought.given.now l.sought.end (6 - length l.those.items) l.stream (drop l.name-index (scoped_inputs l.sought.scoped.now)) more
+      → AreLacking l.sought.scoped.now l.sought.given.now l.sought.end (l.those.items ++ more);
 }

@@ -7,8 +7,8 @@ use Rattle.lucid_explain_run.proofs.judgment.text_of_scoped.Goals as goal
 
 pub returns : goal.returns
 returns c =
-    let file = c.args.file.now in
-    let source = c.args.source.now in
+    let file = c.args.judged.now.file.now in
+    let source = c.args.judged.now.source.now in
     let node = c.args.row.node in
     let line = c.args.row.line in
     told node line (scoped_tree c.args.scoped.now) c.requires.row c.requires.program

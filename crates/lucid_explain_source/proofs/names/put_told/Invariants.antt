@@ -3,5 +3,5 @@ use Rattle.lucid_explain_source.proofs.names.put_told.Given as goal
 
 abbrev pub invariant-loop-def : goal.invariant-loop-def
 invariant-loop-def l =
-    l.text.items ++ told_text l.source (fits l.wanted l.name) l.room (lent (drop l.def-index l.defs))
-    ≡ l.initial.text.items ++ told_text l.source (fits l.wanted l.name) l.most (lent l.defs)
+    l.text.items ++ told_text l.source (fits l.advice.wanted l.name) l.room (lent (drop l.def-index l.defs))
+    ≡ l.initial.text.items ++ told_text l.source (fits l.advice.wanted l.name) l.advice.most (lent l.defs)

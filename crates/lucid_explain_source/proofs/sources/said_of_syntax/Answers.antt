@@ -1,20 +1,15 @@
 use Rattle.std.proofs.Common.{ℕ, List, ◌++◌, ap, ◌∙◌}
 use Rattle.lucid_explain_places.proofs.Begun.{fault_within}
-use Rattle.lucid_explain_places.specs.Around.{around_at}
-use Rattle.lucid_explain_places.specs.Syntax.{syntax_text}
 use Rattle.lucid_explain_source.specs.Reported.{syntax_line}
 use Rattle.lucid_explain_source.specs.Sources.{by_syntax}
 use Rattle.lucid_explain_source.proofs.sources.said_of_syntax.Goals as goal
 
-pub put_syntax-requires-clause-within : goal.put_syntax-requires-clause-within
-put_syntax-requires-clause-within c = fault_within c.args.source.now c.args.tokens.now c.args.at c.tokens_are_in_order.ensures c.requires.scanned
+pub explain_syntax-requires-clause-within : goal.explain_syntax-requires-clause-within
+explain_syntax-requires-clause-within c = fault_within c.args.source.now c.args.tokens.now c.args.at c.tokens_are_in_order.ensures c.requires.scanned
     c.requires.refused
 
 pub returns : goal.returns
 returns c =
-    let said = c.in_ok-put_syntax.ensures in
+    let said = c.in_ok-text.ensures in
     by_syntax c.args.tokens.now c.args.at said.0 (record { short = c.requires.short; listed = c.requires.scanned }) c.requires.refused said.1
-    (c.in_ok-put_line_at.ensures ∙ ap (λ (z : List ℕ). z ++ syntax_line c.args.at) c.new-line.ensures.items)
-    (said.2
-    ∙ ap (λ (z : List ℕ). z ++ syntax_text c.args.file.now c.args.source.now c.args.at (around_at c.args.source.now c.args.tokens.now c.args.at) said.0)
-    c.new-text.ensures.items)
+    (c.in_ok-put_line_at.ensures ∙ ap (λ (z : List ℕ). z ++ syntax_line c.args.at) c.new-line.ensures.items) said.2
