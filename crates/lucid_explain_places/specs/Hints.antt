@@ -17,6 +17,10 @@ use Rattle.lucid_explain_places.specs.Around.{PlainAround}
 abbrev pub has : (text : List ℕ) → List Candidate → Bool
 has text those = list_any (λ c. same_bytes c.text.now text) those
 
+-- the token is this one, and another one may stand there
+abbrev pub reads : (read word other : List ℕ) → List Candidate → Bool
+reads read word other those = same_bytes read word && has other those
+
 -- a definition, an `if` or a parenthesis is open, and what ends it or goes on with it may stand there
 abbrev pub is_open : List Candidate → Bool
 is_open those =
@@ -144,6 +148,32 @@ is_ended a those = is_whole those && same_bytes a.before (codes "end")
 abbrev pub is_defining : PlainAround → List Candidate → Bool
 is_defining a those = is_whole those && (breaks_line a.gap || same_bytes a.after (codes "="))
 
+-- `eod` or `error` as a function
+abbrev pub is_asked : PlainAround → Bool
+is_asked a = (same_bytes a.before (codes "eod") || same_bytes a.before (codes "error")) && same_bytes a.read (codes "(")
+
+-- a number, and behind it a name that begins no definition
+abbrev pub is_factor : PlainAround → Bool
+is_factor a =
+    begins_with is_ascii_digit a.before && begins_with is_ascii_alphabetic a.read && not (is_reserved a.read) && not (same_bytes a.after (codes "="))
+
+-- of an operator that lacks before the place, or the end of a definition
+abbrev pub missing_hint : PlainAround → List Candidate → List ℕ
+missing_hint a those =
+    if is_argument a those then codes "Is an operator or `where` missing before this? Arguments stand in parentheses, as in `f(x)`, and a string of words as `two words'.\n"
+    else if is_factor a then codes "Is an operator missing before this? A product is written `2 * n`, and the value of n two times later `next next n`.\n"
+    else definition_hint a.read those
+
+-- of a token that lacks before the place in an `if` or a call
+unfoldable pub part_hint : PlainAround → List Candidate → List ℕ
+part_hint a those =
+    if is_asked a then codes "`eod` and `error` are values: whether n is one of them is asked by `iseod n` and `iserror n`.\n"
+    else if has (codes "then") those then codes "Behind the test of an `if` stands `then`.\n"
+    else if has (codes "else") those then codes "Is `else` missing before this, or an operator? A choice is written `if .. then .. else .. fi`, and a call `f(x)`.\n"
+    else if has (codes "fi") those then codes "Is `fi` missing before this, or an operator? Each `if` ends with a `fi` of its own, and a call is written `f(x)`.\n"
+    else if has (codes ",") those then codes "Is a `,` or a `)` missing before this? A call is written `f(x, y)`.\n"
+    else missing_hint a those
+
 -- of a token that lacks before the place
 abbrev pub lacking_hint : PlainAround → List Candidate → List ℕ
 lacking_hint a those =
@@ -151,10 +181,7 @@ lacking_hint a those =
     else if is_ended a those then whole_hint a
     else if is_values a those then codes "Two numbers stand here, and no operator between them. Values of an input stand in a file of their own: `NAME=FILE` behind the program.\n"
     else if is_defining a those then codes "Is `where` missing before the definitions?\n"
-    else if has (codes "then") those then codes "Behind the test of an `if` stands `then`.\n"
-    else if has (codes ",") those then codes "Is a `,` or a `)` missing before this? A call is written `f(x, y)`.\n"
-    else if is_argument a those then codes "Is an operator or `where` missing before this? Arguments stand in parentheses, as in `f(x)`, and a string of words as `two words'.\n"
-    else definition_hint a.read those
+    else part_hint a those
 
 -- where the source ends behind a block in a definition
 abbrev pub is_inner : PlainAround → List Candidate → Bool
@@ -172,6 +199,7 @@ abbrev pub closing_hint : PlainAround → List Candidate → List ℕ
 closing_hint a those =
     if has (codes "fi") those then codes "Each `if` ends with a `fi` of its own.\n"
     else if has (codes "else") those then codes "An `if` has an `else`, and ends with `fi`.\n"
+    else if reads a.read (codes ";") (codes ",") those then codes "A `(` stands open before this: its `)` is missing, or a `,` between two arguments, as in `f(x, y)`.\n"
     else if has (codes ")") those then open_hint a.read
     else if is_whole those then whole_hint a
     else inner_hint a those
@@ -248,10 +276,6 @@ behind_hint a those =
     else if is_product a then codes "A product is written with `*`, as in `2 * n`. A number has digits alone.\n"
     else foreign_hint a those
 
--- the token is this one, and another one may stand there
-abbrev pub reads : (read word other : List ℕ) → List Candidate → Bool
-reads read word other those = same_bytes read word && has other those
-
 -- an operator behind a block
 abbrev pub is_behind_block : PlainAround → Bool
 is_behind_block a = same_bytes a.before (codes "end") && is_infix a.read
@@ -292,6 +316,7 @@ chains read those = is_comparison read && has (codes "+") those
 abbrev pub word_hint : PlainAround → List Candidate → List ℕ
 word_hint a those =
     if reads a.read (codes "if") (codes "where") those then codes "A choice is written `if .. then .. else .. fi`.\n"
+    else if reads a.read (codes "when") (codes "where") those then codes "A condition on times stands behind `whenever`, as in `n whenever n > 3`, and definitions stand behind `where`.\n"
     else if continues a.read those then codes "Write `else if .. then .. else .. fi fi`: each `if` ends with a `fi` of its own.\n"
     else if is_remark a those then codes "A comment begins with `//`.\n"
     else pair_hint a those

@@ -2,7 +2,7 @@
 ghost use Rattle.std.specs.Prelude.{◌≡◌, ◌==◌, ℕ, ◌||◌, IfOk};
 ghost use Rattle.std.specs.Char.{is_ascii_alphabetic, is_ascii_digit};
 ghost use Rattle.lucid_explain_places.specs.Around.{plain_around};
-ghost use Rattle.lucid_explain_places.specs.Hints.{has, is_open, is_whole, is_closing, is_comparison, is_elif, is_step, is_part_word, lacks_operand, is_capital, begins_with, is_product, breaks_line, has_return, has_comment, is_swallowed, is_behind_parameter, open_hint, whole_hint, alone_hint, equals_hint, line_hint, is_argument, definition_hint, is_values, is_ended, is_defining, lacking_hint, is_inner, inner_hint, closing_hint, end_hint, head_hint, is_parameter, parameter_hint, is_between, is_infix, place_hint, is_previous, is_moment, foreign_hint, behind_hint, reads, is_behind_block, are_both, arrow_hint, pair_hint, continues, is_dashed, is_remark, chains, word_hint, operator_hint, is_frozen, frozen_hint, is_cut_off, token_hint, hint};
+ghost use Rattle.lucid_explain_places.specs.Hints.{has, is_open, is_whole, is_closing, is_comparison, is_elif, is_step, is_part_word, lacks_operand, is_capital, begins_with, is_product, breaks_line, has_return, has_comment, is_swallowed, is_behind_parameter, open_hint, whole_hint, alone_hint, equals_hint, line_hint, is_argument, definition_hint, is_values, is_ended, is_defining, is_asked, is_factor, missing_hint, part_hint, lacking_hint, is_inner, inner_hint, closing_hint, end_hint, head_hint, is_parameter, parameter_hint, is_between, is_infix, place_hint, is_previous, is_moment, foreign_hint, behind_hint, reads, is_behind_block, are_both, arrow_hint, pair_hint, continues, is_dashed, is_remark, chains, word_hint, operator_hint, is_frozen, frozen_hint, is_cut_off, token_hint, hint};
 
 use crate::around::Around;
 use crate::candidates::Candidate;
@@ -17,6 +17,13 @@ fn has(text: &[u8], those: &[Candidate]) -> bool
     ensures { result ≡ has text.now those.now }
 {
     those.iter().any(|candidate| candidate.text == text)
+}
+
+// Whether this is the word, and the other one may stand there.
+fn reads(read: &[u8], word: &[u8], other: &[u8], those: &[Candidate]) -> bool
+    ensures { result ≡ reads read.now word.now other.now those.now }
+{
+    read == word && has(other, those)
 }
 
 // Whether a definition, an `if` or a parenthesis is open, and what ends it or goes on with it may stand there.
@@ -274,6 +281,57 @@ fn is_defining(around: &Around<'_>, those: &[Candidate]) -> bool
     is_whole(those) && (breaks_line(around.gap) || around.after == b"=".as_slice())
 }
 
+// Whether this is `eod` or `error` as a function.
+fn is_asked(around: &Around<'_>) -> bool
+    ensures { result ≡ is_asked (plain_around around.now) }
+{
+    (around.before == b"eod".as_slice() || around.before == b"error".as_slice())
+        && around.read == b"(".as_slice()
+}
+
+// Whether this is a number, and behind it a name that begins no definition.
+fn is_factor(around: &Around<'_>) -> bool
+    ensures { result ≡ is_factor (plain_around around.now) }
+{
+    begins_number(around.before)
+        && begins_name(around.read)
+        && !is_reserved(around.read)
+        && around.after != b"=".as_slice()
+}
+
+// A hint at an operator that lacks before the place, or at the end of a definition.
+fn missing_hint(around: &Around<'_>, those: &[Candidate]) -> &'static [u8]
+    ensures { result.now ≡ missing_hint (plain_around around.now) those.now }
+{
+    if is_argument(around, those) {
+        b"Is an operator or `where` missing before this? Arguments stand in parentheses, as in `f(x)`, and a string of words as `two words'.\n"
+    } else if is_factor(around) {
+        b"Is an operator missing before this? A product is written `2 * n`, and the value of n two times later `next next n`.\n"
+    } else {
+        definition_hint(around.read, those)
+    }
+}
+
+// A hint at a token that lacks before the place in an `if` or a call.
+#[tactic(auto, unfolding(crate::specs::Hints::part_hint))]
+fn part_hint(around: &Around<'_>, those: &[Candidate]) -> &'static [u8]
+    ensures { result.now ≡ part_hint (plain_around around.now) those.now }
+{
+    if is_asked(around) {
+        b"`eod` and `error` are values: whether n is one of them is asked by `iseod n` and `iserror n`.\n"
+    } else if has(b"then", those) {
+        b"Behind the test of an `if` stands `then`.\n"
+    } else if has(b"else", those) {
+        b"Is `else` missing before this, or an operator? A choice is written `if .. then .. else .. fi`, and a call `f(x)`.\n"
+    } else if has(b"fi", those) {
+        b"Is `fi` missing before this, or an operator? Each `if` ends with a `fi` of its own, and a call is written `f(x)`.\n"
+    } else if has(b",", those) {
+        b"Is a `,` or a `)` missing before this? A call is written `f(x, y)`.\n"
+    } else {
+        missing_hint(around, those)
+    }
+}
+
 // A hint at a token that lacks before the place.
 fn lacking_hint(around: &Around<'_>, those: &[Candidate]) -> &'static [u8]
     ensures { result.now ≡ lacking_hint (plain_around around.now) those.now }
@@ -286,14 +344,8 @@ fn lacking_hint(around: &Around<'_>, those: &[Candidate]) -> &'static [u8]
         b"Two numbers stand here, and no operator between them. Values of an input stand in a file of their own: `NAME=FILE` behind the program.\n"
     } else if is_defining(around, those) {
         b"Is `where` missing before the definitions?\n"
-    } else if has(b"then", those) {
-        b"Behind the test of an `if` stands `then`.\n"
-    } else if has(b",", those) {
-        b"Is a `,` or a `)` missing before this? A call is written `f(x, y)`.\n"
-    } else if is_argument(around, those) {
-        b"Is an operator or `where` missing before this? Arguments stand in parentheses, as in `f(x)`, and a string of words as `two words'.\n"
     } else {
-        definition_hint(around.read, those)
+        part_hint(around, those)
     }
 }
 
@@ -325,6 +377,8 @@ fn closing_hint(around: &Around<'_>, those: &[Candidate]) -> &'static [u8]
         b"Each `if` ends with a `fi` of its own.\n"
     } else if has(b"else", those) {
         b"An `if` has an `else`, and ends with `fi`.\n"
+    } else if reads(around.read, b";", b",", those) {
+        b"A `(` stands open before this: its `)` is missing, or a `,` between two arguments, as in `f(x, y)`.\n"
     } else if has(b")", those) {
         open_hint(around.read)
     } else if is_whole(those) {
@@ -466,13 +520,6 @@ fn behind_hint(around: &Around<'_>, those: &[Candidate]) -> &'static [u8]
     }
 }
 
-// Whether this is the word, and the other one may stand there.
-fn reads(read: &[u8], word: &[u8], other: &[u8], those: &[Candidate]) -> bool
-    ensures { result ≡ reads read.now word.now other.now those.now }
-{
-    read == word && has(other, those)
-}
-
 // Whether this is an operator behind a block.
 fn is_behind_block(around: &Around<'_>) -> bool
     ensures { result ≡ is_behind_block (plain_around around.now) }
@@ -552,6 +599,8 @@ fn word_hint(around: &Around<'_>, those: &[Candidate]) -> &'static [u8]
 {
     if reads(around.read, b"if", b"where", those) {
         b"A choice is written `if .. then .. else .. fi`.\n"
+    } else if reads(around.read, b"when", b"where", those) {
+        b"A condition on times stands behind `whenever`, as in `n whenever n > 3`, and definitions stand behind `where`.\n"
     } else if continues(around.read, those) {
         b"Write `else if .. then .. else .. fi fi`: each `if` ends with a `fi` of its own.\n"
     } else if is_remark(around, those) {

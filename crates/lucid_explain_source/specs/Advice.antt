@@ -1,6 +1,7 @@
 -- What is said of bytes that are no token, with what was probably meant.
-use Rattle.std.specs.Prelude.{ℕ, Bool, List, ◌++◌, take, drop, slice_index, codes, ◌==◌, ◌||◌, nat_lt, if◌then◌else◌}
+use Rattle.std.specs.Prelude.{ℕ, Bool, List, ◌++◌, length, take, drop, slice_index, codes, ◌==◌, ◌&&◌, ◌||◌, nat_lt, if◌then◌else◌}
 use Rattle.std.specs.List.{suffix_len}
+use Rattle.std.specs.Char.{is_ascii_digit}
 use Rattle.lucid_value.specs.Names.{is_name_byte}
 use Rattle.lucid_scan.specs.declared.refusal.ScanRefusal.{ScanRefusal}
 use Rattle.lucid_scan.specs.declared.refusal.ScanRefusal.TheVariants as refusal
@@ -17,14 +18,15 @@ string_advice = codes "A string begins with a backquote and ends with ' in one l
 abbrev pub byte_advice : ℕ → List ℕ
 byte_advice b =
     if b == 47 then codes "Division is `div`, and what it leaves over is `mod`. A comment begins with `//`.\n"
-    else if b == 46 then codes "There are no real numbers: write integers.\n"
+    else if b == 46 then codes "No `.` stands outside comments and strings: operators and functions stand before what they take, as in `next n` and `f(n)`.\n"
     else if b == 34 then codes "Between two \" stands one word: a letter, then letters and digits. The truths `true` and `false` stand without \", and other texts between a backquote and '.\n"
     else if b == 39 then string_advice
     else if b == 33 then codes "Write `ne` for what differs, and `not` before a truth.\n"
     else if b == 38 then codes "Write `and`, and to join strings `^`.\n"
     else if b == 124 then codes "Write `or`. Cases are told apart by `if .. then .. else .. fi`.\n"
     else if b == 37 then codes "What a division leaves over is `mod`.\n"
-    else if b == 91 || b == 93 then list_advice
+    else if b == 91 then list_advice
+    else if b == 93 then codes "Before this no list is open: a `(` ends with `)`, and a list of constants with `%]`.\n"
     else if b == 123 || b == 125 then codes "Parentheses group, and definitions stand between `where` and `end`.\n"
     else if b == 95 then codes "A name begins with a letter, and a number has digits alone.\n"
     else if b == 58 then codes "A definition is written with `=`, as `n = 0 fby n + 1;` or `f(x) = x + 1;`, and `::` puts a value in front of a list. Behind a test stands `then`.\n"
@@ -52,11 +54,16 @@ behind_advice b =
 abbrev pub ascii_advice : (before : List ℕ) → ℕ → List ℕ
 ascii_advice before b = if ends_name before then behind_advice b else byte_advice b
 
+-- a `.` and a digit, as in a real number
+abbrev pub is_real : (rest : List ℕ) → Bool
+is_real rest = nat_lt 1 (length rest) && slice_index rest 0 == 46 && is_ascii_digit (slice_index rest 1)
+
 -- of bytes with which no token begins, by what stands before them
 abbrev pub bad_advice : (before rest : List ℕ) → List ℕ
 bad_advice before rest =
     if nat_lt 127 (slice_index rest 0) then character_advice rest
     else if begins rest (codes "/=") then differs_advice
+    else if is_real rest then codes "There are no real numbers: write integers.\n"
     else ascii_advice before (slice_index rest 0)
 
 -- of a string or a list that has no end, or is no value, which begins so

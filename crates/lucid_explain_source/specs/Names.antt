@@ -1,5 +1,5 @@
 -- What is said of a tree whose names are refused.
-use Rattle.std.specs.Prelude.{ℕ, ◌-◌, List, [], ◌∷◌, ◌++◌, length, min, take, drop, find, Bool, true, false, not, ◌&&◌, codes, nat_eq, nat_lt, if◌then◌else◌, Option, None, Some}
+use Rattle.std.specs.Prelude.{ℕ, ◌-◌, List, [], ◌∷◌, ◌++◌, length, min, take, drop, find, Bool, true, false, not, ◌&&◌, ◌||◌, codes, nat_eq, nat_lt, if◌then◌else◌, Option, None, Some}
 use Rattle.std.specs.List.{filter, list_any, prefix_len}
 use Rattle.lucid_value.specs.Plain.{same_bytes}
 use Rattle.lucid_value.specs.Names.{is_name_byte}
@@ -81,8 +81,11 @@ parameter_advice = codes "A list of parameters has each name once.\n"
 abbrev pub no_function_advice : List ℕ
 no_function_advice = codes "No function of this name is in scope here: define it, or mend its spelling.\n"
 
+abbrev pub printing_advice : List ℕ
+printing_advice = codes "No function of this name is in scope here. None is needed to print: a program writes the values of its subject, with which it begins.\n"
+
 abbrev pub not_function_advice : List ℕ
-not_function_advice = codes "What this name stands for here has no parameters: write it without arguments.\n"
+not_function_advice = codes "What this name stands for here has no parameters: write it without arguments. The value of n at time 3 is `n attime 3`.\n"
 
 abbrev pub is_function_advice : List ℕ
 is_function_advice = codes "This is a function: its arguments stand behind it in parentheses.\n"
@@ -103,6 +106,16 @@ again_text source None among = parameter_advice ++ found_text source among
 abbrev pub twice_text : (source : List ℕ) → List Def → (at : ℕ) → List ℕ
 twice_text source defs at = again_text source (earlier at defs) (headed at defs)
 
+-- how other languages print
+abbrev pub is_printing : (name : List ℕ) → Bool
+is_printing name = same_bytes name (codes "print") || same_bytes name (codes "println") || same_bytes name (codes "printf") || same_bytes name (codes "write")
+
+-- what is said of a call of a function that isn't in scope
+abbrev pub no_function_text : (source : List ℕ) → List Def → (at : ℕ) → List ℕ
+no_function_text source defs at =
+    if is_printing (name_at source at) then advised_text source defs at printing_advice wanted.Functions 6
+    else advised_text source defs at no_function_advice wanted.Functions 6
+
 -- What is said of a call of what is no function: the definition of the name, but where the name may be a parameter.
 abbrev pub not_function_text : (source : List ℕ) → List Def → (at : ℕ) → List ℕ
 not_function_text source defs at =
@@ -111,7 +124,7 @@ not_function_text source defs at =
 -- what is said of a refusal, by the definitions in scope at its place
 abbrev pub said_text : (source : List ℕ) → List Def → ScopeRefusal → List ℕ
 said_text source defs (refusal.Twice at) = twice_text source defs at
-said_text source defs (refusal.NoFunction at) = advised_text source defs at no_function_advice wanted.Functions 6
+said_text source defs (refusal.NoFunction at) = no_function_text source defs at
 said_text source defs (refusal.NotFunction at) = not_function_text source defs at
 said_text source defs (refusal.IsFunction at) = advised_text source defs at is_function_advice wanted.Named 1
 said_text source defs (refusal.Arity at _ _) = advised_text source defs at arity_advice wanted.Named 1

@@ -3,7 +3,7 @@ ghost use Rattle.std.specs.Prelude.{◌≡◌, ◌≤◌, ◌<◌, ◌++◌, len
 ghost use Rattle.std.specs.List.{suffix_len};
 ghost use Rattle.lucid_value.specs.Names.{is_name_byte};
 ghost use Rattle.lucid_scan.specs.Refusals.{Refuses, most_source_bytes};
-ghost use Rattle.lucid_explain_source.specs.Advice.{byte_advice, ends_name, behind_advice, ascii_advice, bad_advice, open_advice, big_advice, long_advice, scan_text};
+ghost use Rattle.lucid_explain_source.specs.Advice.{byte_advice, ends_name, behind_advice, ascii_advice, is_real, bad_advice, open_advice, big_advice, long_advice, scan_text};
 ghost use Rattle.lucid_explain_places.specs.Shown.{place_text};
 
 use crate::characters::{DIFFERS, begins, character_advice};
@@ -25,7 +25,8 @@ fn byte_advice(byte: u8) -> &'static [u8]
     match byte {
         b'/' =>
             b"Division is `div`, and what it leaves over is `mod`. A comment begins with `//`.\n",
-        b'.' => b"There are no real numbers: write integers.\n",
+        b'.' =>
+            b"No `.` stands outside comments and strings: operators and functions stand before what they take, as in `next n` and `f(n)`.\n",
         b'"' =>
             b"Between two \" stands one word: a letter, then letters and digits. The truths `true` and `false` stand without \", and other texts between a backquote and '.\n",
         b'\'' => STRING,
@@ -33,7 +34,9 @@ fn byte_advice(byte: u8) -> &'static [u8]
         b'&' => b"Write `and`, and to join strings `^`.\n",
         b'|' => b"Write `or`. Cases are told apart by `if .. then .. else .. fi`.\n",
         b'%' => b"What a division leaves over is `mod`.\n",
-        b'[' | b']' => LIST,
+        b'[' => LIST,
+        b']' =>
+            b"Before this no list is open: a `(` ends with `)`, and a list of constants with `%]`.\n",
         b'{' | b'}' => b"Parentheses group, and definitions stand between `where` and `end`.\n",
         b'_' => b"A name begins with a letter, and a number has digits alone.\n",
         b':' =>
@@ -92,6 +95,13 @@ fn ascii_advice(before: &[u8], byte: u8) -> &'static [u8]
     }
 }
 
+// Whether this is a `.` and a digit, as in a real number.
+fn is_real(rest: &[u8]) -> bool
+    ensures { result ≡ is_real rest.now }
+{
+    rest.len() > 1 && rest[0] == b'.' && rest[1].is_ascii_digit()
+}
+
 // What is said of bytes with which no token begins, by what stands before them.
 fn bad_advice(before: &[u8], rest: &[u8]) -> &'static [u8]
     requires { 0 < length rest.now }
@@ -102,6 +112,8 @@ fn bad_advice(before: &[u8], rest: &[u8]) -> &'static [u8]
         character_advice(rest)
     } else if begins(rest, b"/=") {
         DIFFERS
+    } else if is_real(rest) {
+        b"There are no real numbers: write integers.\n"
     } else {
         ascii_advice(before, byte)
     }

@@ -6,7 +6,7 @@ ghost use Rattle.lucid_value.specs.Plain.{same_bytes};
 ghost use Rattle.lucid_value.specs.Names.{is_name_byte};
 ghost use Rattle.lucid_tree.specs.declared.tree.Def.{Def as PlainDef};
 ghost use Rattle.lucid_scan.specs.Refusals.{most_source_bytes};
-ghost use Rattle.lucid_explain_source.specs.Names.{name_front, name_at, is_function, is_plain, fits, told_text, advised_text, heads, is_before, earlier, headed, has_parameter, is_parameter, parameter_advice, found_text, again_text, twice_text, not_function_text, refusal_at, said_text, names_text};
+ghost use Rattle.lucid_explain_source.specs.Names.{name_front, name_at, is_function, is_plain, fits, told_text, advised_text, heads, is_before, earlier, headed, has_parameter, is_parameter, parameter_advice, found_text, again_text, twice_text, is_printing, no_function_text, not_function_text, refusal_at, said_text, names_text};
 ghost use Rattle.lucid_explain_source.specs.Scopes.{lent, in_scope};
 
 use crate::definitions::put_definition;
@@ -26,7 +26,7 @@ const TWICE: &[u8] =
 const PARAMETER: &[u8] = b"A list of parameters has each name once.\n";
 
 const NOT_FUNCTION: &[u8] =
-    b"What this name stands for here has no parameters: write it without arguments.\n";
+    b"What this name stands for here has no parameters: write it without arguments. The value of n at time 3 is `n attime 3`.\n";
 
 /// Which definitions are told.
 #[derive(Clone, Copy)]
@@ -51,6 +51,12 @@ pub(crate) struct Advice {
 
 const NO_FUNCTION: Advice = Advice {
     says: b"No function of this name is in scope here: define it, or mend its spelling.\n",
+    wanted: Wanted::Functions,
+    most: MOST_TOLD,
+};
+
+const PRINTING: Advice = Advice {
+    says: b"No function of this name is in scope here. None is needed to print: a program writes the values of its subject, with which it begins.\n",
     wanted: Wanted::Functions,
     most: MOST_TOLD,
 };
@@ -335,6 +341,33 @@ fn is_parameter(defs: &[&Def], name: &[u8]) -> bool
     false
 }
 
+// Whether other languages print so.
+fn is_printing(name: &[u8]) -> bool
+    ensures { result ≡ is_printing name.now }
+{
+    name == b"print".as_slice()
+        || name == b"println".as_slice()
+        || name == b"printf".as_slice()
+        || name == b"write".as_slice()
+}
+
+// Appends what is said of a call of a function that isn't in scope.
+fn put_no_function(
+    text: &mut Vec<u8>,
+    source: &[u8],
+    defs: &[&Def],
+    at: u32,
+) -> Result<(), AllocError>
+    requires { length source.now ≤ most_source_bytes }
+    ensures { OnOk result (text.new.items ≡ text.old.items ++ no_function_text source.now (lent defs.now) at) }
+{
+    if is_printing(name_at(source, at)) {
+        put_advised(text, source, defs, at, &PRINTING)
+    } else {
+        put_advised(text, source, defs, at, &NO_FUNCTION)
+    }
+}
+
 // Appends what is said of a call of what is no function.
 fn put_not_function(
     text: &mut Vec<u8>,
@@ -365,7 +398,7 @@ fn put_said(
 {
     match refusal {
         ScopeRefusal::Twice { at } => put_twice(alloc, text, source, defs, *at),
-        ScopeRefusal::NoFunction { at } => put_advised(text, source, defs, *at, &NO_FUNCTION),
+        ScopeRefusal::NoFunction { at } => put_no_function(text, source, defs, *at),
         ScopeRefusal::NotFunction { at } => put_not_function(text, source, defs, *at),
         ScopeRefusal::IsFunction { at } => put_advised(text, source, defs, *at, &IS_FUNCTION),
         ScopeRefusal::Arity { at, .. } => put_advised(text, source, defs, *at, &ARITY),

@@ -132,7 +132,7 @@ struct Ends {
 }
 
 // Tokens that go wrong, with the hint that ends the report.
-static HINTS: [Ends; 70] = [
+static HINTS: [Ends; 78] = [
     Ends {
         source: b"n = 0 fby n + 1;",
         begin: "syntax at 2\n",
@@ -483,10 +483,50 @@ static HINTS: [Ends; 70] = [
         begin: "syntax at 3\n",
         end: ".\nTwo numbers stand here, and no operator between them. Values of an input stand in a file of their own: `NAME=FILE` behind the program.\n",
     },
+    Ends {
+        source: b"n when n > 3 where n = 0 fby n + 1; end",
+        begin: "syntax at 2\n",
+        end: ".\nA condition on times stands behind `whenever`, as in `n whenever n > 3`, and definitions stand behind `where`.\n",
+    },
+    Ends {
+        source: b"if eod(n) then 1 else 2 fi",
+        begin: "syntax at 6\n",
+        end: ".\n`eod` and `error` are values: whether n is one of them is asked by `iseod n` and `iserror n`.\n",
+    },
+    Ends {
+        source: b"error(n)",
+        begin: "syntax at 5\n",
+        end: ".\n`eod` and `error` are values: whether n is one of them is asked by `iseod n` and `iserror n`.\n",
+    },
+    Ends {
+        source: b"f(1; 2) where f(x, y) = x + y; end",
+        begin: "syntax at 3\n",
+        end: ".\nA `(` stands open before this: its `)` is missing, or a `,` between two arguments, as in `f(x, y)`.\n",
+    },
+    Ends {
+        source: b"f(1, 2) where f(x; y) = x + y; end",
+        begin: "syntax at 17\n",
+        end: ".\nA `(` stands open before this: its `)` is missing, or a `,` between two arguments, as in `f(x, y)`.\n",
+    },
+    Ends {
+        source: b"x where x = if true then 1 2 fi; end",
+        begin: "syntax at 27\n",
+        end: ".\nIs `else` missing before this, or an operator? A choice is written `if .. then .. else .. fi`, and a call `f(x)`.\n",
+    },
+    Ends {
+        source: b"if true then 1 else 2 endif",
+        begin: "syntax at 22\n",
+        end: ".\nIs `fi` missing before this, or an operator? Each `if` ends with a `fi` of its own, and a call is written `f(x)`.\n",
+    },
+    Ends {
+        source: b"next 2 n where n = 0 fby n + 1; end",
+        begin: "syntax at 7\n",
+        end: ".\nIs an operator missing before this? A product is written `2 * n`, and the value of n two times later `next next n`.\n",
+    },
 ];
 
 // Bytes that are no tokens, the same.
-static CHARACTERS: [Ends; 23] = [
+static CHARACTERS: [Ends; 26] = [
     Ends {
         source: b"\xef\xbb\xbf1",
         begin: "bad byte at 0\n",
@@ -602,10 +642,25 @@ static CHARACTERS: [Ends; 23] = [
         begin: "bad byte at 4\n",
         end: "^\nA string begins with a backquote and ends with ' in one line, as `two words'. It has printable ASCII alone, without these two.\n",
     },
+    Ends {
+        source: b"n.next where n = 0 fby n + 1; end",
+        begin: "bad byte at 1\n",
+        end: "^\nNo `.` stands outside comments and strings: operators and functions stand before what they take, as in `next n` and `f(n)`.\n",
+    },
+    Ends {
+        source: b"n where n = x.5; end",
+        begin: "bad byte at 13\n",
+        end: "^\nThere are no real numbers: write integers.\n",
+    },
+    Ends {
+        source: b"n where n = (1 + 2]; end",
+        begin: "bad byte at 18\n",
+        end: "^\nBefore this no list is open: a `(` ends with `)`, and a list of constants with `%]`.\n",
+    },
 ];
 
 // Names that are at fault.
-static NAMES: [Row; 10] = [
+static NAMES: [Row; 11] = [
     Row {
         words: "p",
         source: "x where x = 1; x = 2; end",
@@ -628,7 +683,7 @@ static NAMES: [Row; 10] = [
         words: "p",
         source: "g(1) where g(f) = f(2); f = 3; end",
         status: Status::Refused,
-        report: "not a function at 18\np:1:19:\ng(1) where g(f) = f(2); f = 3; end\n                  ^\nWhat this name stands for here has no parameters: write it without arguments.\n",
+        report: "not a function at 18\np:1:19:\ng(1) where g(f) = f(2); f = 3; end\n                  ^\nWhat this name stands for here has no parameters: write it without arguments. The value of n at time 3 is `n attime 3`.\n",
     },
     Row {
         words: "p",
@@ -652,7 +707,7 @@ static NAMES: [Row; 10] = [
         words: "p",
         source: "x(4) where x = 2; end",
         status: Status::Refused,
-        report: "not a function at 0\np:1:1:\nx(4) where x = 2; end\n^\nWhat this name stands for here has no parameters: write it without arguments.\nx is defined in line 1, column 12.\n",
+        report: "not a function at 0\np:1:1:\nx(4) where x = 2; end\n^\nWhat this name stands for here has no parameters: write it without arguments. The value of n at time 3 is `n attime 3`.\nx is defined in line 1, column 12.\n",
     },
     Row {
         words: "p",
@@ -665,6 +720,12 @@ static NAMES: [Row; 10] = [
         source: "f(1, 2) where\n  f(x) = x; end",
         status: Status::Refused,
         report: "wrong number of arguments at 0: 1 wanted, 2 given\np:1:1:\nf(1, 2) where\n^\nA call has as many arguments as the function has parameters.\nf(x) is defined in line 2, column 3.\n",
+    },
+    Row {
+        words: "p",
+        source: "print(n) where n = 1; f(x) = x; end",
+        status: Status::Refused,
+        report: "no such function at 0\np:1:1:\nprint(n) where n = 1; f(x) = x; end\n^\nNo function of this name is in scope here. None is needed to print: a program writes the values of its subject, with which it begins.\nf(x) is defined in line 1, column 23.\n",
     },
 ];
 
