@@ -1,5 +1,5 @@
 -- A check and the making of a certificate, of the program that is an input, are witnesses of the clauses of the command.
-use Rattle.lucid_top.proofs.Common.{◌≡◌, ◌≢◌, ℕ, zero, suc, ◌+◌, ◌⊎◌, List, [], ◌∷◌, ◌++◌, length, Option, Some, None, Ok, Err, false, inl, inr, refl, sym, subst, ◌∙◌, ap, arith, le_refl, IfSome, IsSome, option_map, slice_get, codes, digits, pos, TextsAreLongest, IsOverlong, Elements, empty, file, PlainWords, words_asked, all_bytes, with_all, Told, RunView, HasElements, tree_stream, Table, Status, Outcome, Call, task_of, view_of, certificate_of, IsTold, Asks, HasNames, HasFiles, IsCheck, IsMaking, ReadFails, TellsFiles, ComesOnly, MeetsClauses, EndsCheck, EndsMaking, by_checking, before_checking, by_making, before_making, IsLast, IsLastLine, LiesPast, HeldCertificate, Why, IsRight}
+use Rattle.lucid_top.proofs.Common.{◌≡◌, ◌≢◌, ℕ, zero, suc, ◌⊎◌, List, [], ◌∷◌, ◌++◌, length, Option, Some, None, Ok, Err, false, inl, inr, refl, sym, subst, ◌∙◌, ap, arith, le_refl, IfSome, IsSome, option_map, slice_get, codes, digits, pos, TextsAreLongest, IsOverlong, Elements, empty, file, PlainWords, words_asked, all_bytes, with_all, Told, RunView, HasElements, tree_stream, Table, Status, Outcome, Call, task_of, view_of, certificate_of, IsTold, Asks, HasNames, HasFiles, IsCheck, IsMaking, ReadFails, TellsFiles, ComesOnly, MeetsClauses, EndsCheck, EndsMaking, by_checking, before_checking, by_making, before_making, IsLast, IsLastLine, LiesPast, HeldCertificate, Why, IsRight}
 use Rattle.std.proofs.lemmas.Option.{same_Some}
 use Rattle.clap.proofs.OnLiterals.{clap_on_literals}
 use Rattle.lucid_value.specs.Plain.{int}

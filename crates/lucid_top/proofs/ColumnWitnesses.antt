@@ -1,5 +1,5 @@
 -- Columns of the counting program are a witness of the clauses of the command.
-use Rattle.lucid_top.proofs.Common.{◌≡◌, ℕ, zero, suc, ◌+◌, ◌<◌, ◌≤◌, List, [], ◌∷◌, ◌++◌, length, Option, Some, None, Ok, Err, Bool, true, false, inl, inr, refl, sym, subst, ◌∙◌, ap, arith, IfSome, IsSome, IsSomeAnd, IsTrue, codes, digits, eod, PlainValue, TextIsRead, TextsAreLongest, number, counting, Elements, empty, file, PlainWords, words_asked, all_sites, HasInputs, IsNonDecreasingBy, with_all, counting_source, RunView, HasElements, Ran, tree_stream, Outcome, Call, AreColumns, of_columns, beside, program_counted, IsTold, Asks, HasNames, by_columns, IsRun, run_of, view_of, run_result, ReadFails, TellsFiles, ComesOnly, PlainTree, Figures}
+use Rattle.lucid_top.proofs.Common.{◌≡◌, ℕ, zero, suc, ◌<◌, ◌≤◌, List, [], ◌∷◌, ◌++◌, length, Option, Some, None, Ok, Err, Bool, true, false, inl, inr, refl, sym, subst, ◌∙◌, ap, arith, IfSome, IsSome, IsSomeAnd, IsTrue, codes, digits, eod, PlainValue, TextIsRead, TextsAreLongest, number, counting, Elements, empty, file, PlainWords, words_asked, all_sites, HasInputs, IsNonDecreasingBy, with_all, counting_source, RunView, HasElements, Ran, tree_stream, Outcome, Call, AreColumns, of_columns, beside, program_counted, IsTold, Asks, HasNames, by_columns, IsRun, run_of, view_of, run_result, ReadFails, TellsFiles, ComesOnly, PlainTree, Figures}
 use Rattle.std.proofs.lemmas.Option.{same_Some}
 use Rattle.std.proofs.lemmas.List.{append-nil}
 use Rattle.std.specs.Prelude.{swap}
@@ -8,7 +8,6 @@ use Rattle.lucid_value.specs.Names.{reserved_words}
 use Rattle.lucid_value.specs.ValueText.{value_text}
 use Rattle.lucid_tree.proofs.Growth.{meant-once, val-up}
 use Rattle.lucid_words.specs.declared.PolicyWord.TheVariants as policy
-use Rattle.lucid_ports.specs.declared.run.RunFault.TheVariants as fault
 use Rattle.lucid_scope.specs.Sites.{Site, site_at}
 use Rattle.lucid_columns.specs.Columns.{is_column}
 use Rattle.lucid_session.specs.Subject.{OneStream, Output, StreamMeans, HasEnded, IsCell, AreCells, parted, columns_subject}

@@ -1,5 +1,5 @@
 -- The counting program: its source spells its tree, whose names are not at fault; and what it has at the first times.
-use Rattle.lucid_top.proofs.Common.{◌≡◌, ℕ, zero, suc, ◌+◌, ◌<◌, List, [], ◌∷◌, ◌++◌, length, drop, true, refl, sym, ◌∙◌, ap, subst, arith, codes, digits, PlainValue, TextIsRead, TextsAreLongest, name, no_defs, defines, number, counting, Elements, empty, Derives, HasNoFault, all_sites, PlacedTerminal, Spells, SpellsDefs, Terminals, Spelt, HasInputs, counting_source, pos, IsNonDecreasingBy}
+use Rattle.lucid_top.proofs.Common.{◌≡◌, ℕ, zero, suc, ◌<◌, List, [], ◌∷◌, length, drop, refl, arith, codes, digits, PlainValue, TextIsRead, TextsAreLongest, name, no_defs, defines, number, counting, Elements, empty, Derives, HasNoFault, all_sites, PlacedTerminal, Spells, SpellsDefs, Spelt, HasInputs, counting_source, pos, IsNonDecreasingBy}
 use Rattle.lucid_value.specs.Plain.{int}
 use Rattle.lucid_value.specs.Names.{reserved_words}
 use Rattle.lucid_ops.specs.declared.op.Op.TheVariants as op

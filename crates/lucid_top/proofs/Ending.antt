@@ -1,5 +1,5 @@
 -- How a call comes to its outcome: it stops early, or it writes a text.
-use Rattle.lucid_top.proofs.Common.{◌≡◌, ◌≢◌, ℕ, ◌+◌, ◌-◌, ◌<◌, ◌≤◌, List, [], length, get_or, Option, Some, None, Ok, Err, inl, inr, refl, sym, ap, subst, ◌∙◌, arith, slice_get, option_map, IfOk, slice_get-get_or, ∥∥₁_map, le_refl, take_all, World, Contents, with_all, PlainTree, Table, most_source_bytes, places, IsWellMade, HasNoFault, Scoped, scoped_tree, scoped_inputs, IsJudgeRefusal, JudgeRefusal, rises_from, PlainSource, file, made, PlainWords, Told, Refusal, Stop, Form, Task, Outcome, Call, task_of, form_of, WritesWhole, WritesFront, judge_stop, IsRefusalOf, RefusesText, RefusesNames, RefusesBeside, StandsBeside, HasInputs, most_flat_bytes, RefusesFlat, RefusesGiven, FitsGiven, IsSource, Asks, HasTree, HasFlat, HasNames, HasColumns, IsWriting, IsTextFor, asks_for, inputs_in, IsAskedFor, IsRun, by_words, by_text, by_flat, by_names, by_missing, by_judging, by_given, first_place, run_places, run_of, KeepsNames, ReadsSource, most_read, SpeltBySource, FlatBySource, IsAcceptedBeside, IsSourceStop, IsProgramStop, IsColumnsStop, IsReadStop, AreFresh, WritesOnly, WritesNothing, reaches_nothing, reaches_source, reaches_inputs, Rests, IsOfMade, RunsTable, Comes, OnOk, by_tree, certificate_places, first_input, by_columns, by_table}
+use Rattle.lucid_top.proofs.Common.{◌≡◌, ◌≢◌, ℕ, ◌+◌, ◌-◌, ◌<◌, ◌≤◌, List, [], length, get_or, Option, Some, None, Ok, Err, inl, inr, refl, sym, ap, subst, ◌∙◌, arith, slice_get, option_map, IfOk, slice_get-get_or, ∥∥₁_map, le_refl, take_all, World, Contents, with_all, PlainTree, Table, most_source_bytes, places, IsWellMade, HasNoFault, Scoped, scoped_tree, scoped_inputs, IsJudgeRefusal, JudgeRefusal, rises_from, PlainSource, file, made, PlainWords, Told, Refusal, Stop, Form, Task, Outcome, Call, task_of, form_of, WritesWhole, WritesFront, judge_stop, IsRefusalOf, RefusesText, RefusesNames, RefusesBeside, StandsBeside, HasInputs, most_flat_bytes, RefusesFlat, RefusesGiven, FitsGiven, IsSource, Asks, HasTree, HasFlat, HasNames, HasColumns, IsWriting, IsTextFor, asks_for, inputs_in, IsAskedFor, IsRun, by_words, by_text, by_flat, by_names, by_missing, by_judging, by_given, first_place, run_places, run_of, KeepsNames, ReadsSource, most_read, SpeltBySource, FlatBySource, IsAcceptedBeside, IsSourceStop, IsProgramStop, IsColumnsStop, IsReadStop, AreFresh, WritesOnly, WritesNothing, reaches_nothing, reaches_source, Rests, IsOfMade, RunsTable, Comes, OnOk, by_tree, certificate_places, first_input, by_columns, by_table}
 use Rattle.std.proofs.Common.{Result}
 use Rattle.lucid_ports.specs.World.{unread}
 use Rattle.lucid_scope.specs.Bindings.{IsResolved}

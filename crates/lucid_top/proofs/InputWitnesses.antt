@@ -1,5 +1,5 @@
 -- The program that is an input is a witness of what is consumed.
-use Rattle.lucid_top.proofs.Common.{◌≡◌, ℕ, zero, suc, ◌+◌, ◌<◌, ◌≤◌, List, [], ◌∷◌, ◌++◌, length, Some, None, false, inl, inr, refl, subst, ◌∙◌, ap, arith, le_refl, codes, digits, pos, eod, PlainValue, line, TextsAreLongest, In, empty, file, PlainWords, words_asked, Contents, Status, Call, RunsProgram, elements, Lines, one_line_more, Headline}
+use Rattle.lucid_top.proofs.Common.{◌≡◌, ℕ, zero, suc, ◌<◌, ◌≤◌, List, [], ◌∷◌, ◌++◌, length, Some, None, false, inl, inr, refl, subst, ◌∙◌, ap, arith, le_refl, codes, digits, pos, eod, PlainValue, line, TextsAreLongest, In, empty, file, PlainWords, words_asked, Contents, Status, Call, RunsProgram, elements, Lines, one_line_more, Headline}
 use Rattle.clap.proofs.OnLiterals.{clap_on_literals}
 use Rattle.lucid_value.specs.Plain.{int}
 use Rattle.lucid_value.specs.Lines.{end_of_line}
@@ -9,7 +9,7 @@ use Rattle.lucid_tree.specs.Demand.{consults}
 use Rattle.lucid_words.specs.declared.PolicyWord.TheVariants as policy
 use Rattle.lucid_report.specs.declared.status.Status.TheVariants as status
 use Rattle.lucid_top.specs.Headline.{Has, no_lines}
-use Rattle.lucid_top.specs.Witness.{one_line, input_source, two_lines, Reads, ReadsOne, InputIsAWitness}
+use Rattle.lucid_top.specs.Witness.{one_line, input_source, two_lines, Reads, InputIsAWitness}
 use Rattle.lucid_top.proofs.InputSource.{input_program, input-spelt, input-no-fault, input-inputs, input-value, input-consulted}
 
 -- what the words ask for

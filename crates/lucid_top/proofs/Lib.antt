@@ -19,6 +19,7 @@ pub mod NoColumn
 pub mod Within
 pub mod FewInputs
 pub mod FewColumns
+pub mod Answering
 pub mod TextsOnly
 pub mod Beside
 pub mod FirstWrong

@@ -1,7 +1,7 @@
 -- What a check of a certificate promises, as it is seen from outside.
 use Rattle.lucid_cert.proofs.FoundRight.{input_there}
 use Rattle.lucid_cert.proofs.MeantSoFar.{most_of, within_most}
-use Rattle.lucid_top.proofs.Common.{◌≡◌, ℕ, ◌+◌, ◌<◌, ◌≤◌, List, [], ◌∷◌, length, map, get_or, Option, Some, Ok, Err, ◌⊎◌, inl, inr, refl, sym, ap, subst, ◌∙◌, arith, zero, suc, IfSome, slice_get, slice_get_within, slice_get-get_or, World, all_bytes, Elements, Table, equations_of, IsOverlong, KeepsTree, PlainTree, tree_stream, PlainWords, Told, HasElements, RunView, Stop, Outcome, viewed, most_input_bytes, WritesOnly, Why, IsRight, contexts, Checks, ConsumesFor, ConsumesNothing, EndsSo, IsCheckStop, IsLast, IsLastLine, IsProvedLine, LiesPast, NoneTellsPast, IsStopped, Proves, TellsPast, looked_at}
+use Rattle.lucid_top.proofs.Common.{◌≡◌, ℕ, ◌+◌, ◌<◌, ◌≤◌, List, [], length, map, get_or, Some, Ok, Err, ◌⊎◌, inl, inr, sym, ap, subst, ◌∙◌, arith, IfSome, slice_get, slice_get_within, slice_get-get_or, World, all_bytes, Elements, Table, equations_of, IsOverlong, KeepsTree, PlainTree, tree_stream, PlainWords, Told, HasElements, RunView, Stop, Outcome, viewed, most_input_bytes, WritesOnly, Why, IsRight, contexts, Checks, ConsumesFor, ConsumesNothing, EndsSo, IsCheckStop, IsLast, IsLastLine, IsProvedLine, LiesPast, NoneTellsPast, IsStopped, Proves, TellsPast, looked_at}
 use Rattle.std.proofs.Common.{Result}
 use Rattle.lucid_value.specs.Lines.{end_of_line}
 use Rattle.lucid_inputs.specs.Inputs.{streams, stream_at, most_bytes}

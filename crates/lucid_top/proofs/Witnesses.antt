@@ -8,7 +8,7 @@ use Rattle.lucid_words.specs.declared.PolicyWord.TheVariants as policy
 use Rattle.lucid_report.specs.declared.status.Status.TheVariants as status
 use Rattle.lucid_top.specs.Clauses.{WriteFails}
 use Rattle.lucid_top.specs.Headline.{no_lines, at_limit, ConsultsOverlong}
-use Rattle.lucid_top.specs.Witness.{three_lines, three_lines_deep, three_numbers, Counts, CountsToThree, CountsOne, CountingIsAWitness, DepthIsAWitness}
+use Rattle.lucid_top.specs.Witness.{three_lines, three_lines_deep, three_numbers, Counts, CountingIsAWitness, DepthIsAWitness}
 use Rattle.lucid_top.proofs.CountingSource.{counting-spelt, counting-no-fault, counting-inputs, counting-value}
 
 -- what the words ask for

@@ -10,7 +10,7 @@ use Rattle.lucid_report.specs.declared.stop.Done.TheVariants as done
 use Rattle.lucid_report.specs.declared.stop.Stop.{Stop}
 use Rattle.lucid_top.specs.Judged.{AreResolved}
 use Rattle.lucid_top.specs.Places.{IsAccepted}
-use Rattle.lucid_top.specs.declared.top.Certified.{Certified}
+use Rattle.lucid_top.specs.declared.certificates.Certified.{Certified}
 
 -- the outcome of a call that gives something where the certificate is written
 abbrev pub made_outcome : {X : Type 0} → Result X Stop → Outcome

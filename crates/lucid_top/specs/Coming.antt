@@ -1,5 +1,5 @@
 -- How a call comes to its outcome, as its parts say it.
-use Rattle.std.specs.Prelude.{◌≡◌, ◌≢◌, ℕ, ◌<◌, ◌≤◌, ◌⊎◌, ◌-◌, ◌^◌, [], ◌++◌, length, Some, None, Err}
+use Rattle.std.specs.Prelude.{◌≡◌, ◌≢◌, ℕ, ◌<◌, ◌≤◌, ◌⊎◌, ◌-◌, ◌^◌, [], length, Some, None, Err}
 use Rattle.lucid_ports.specs.World.{World, Contents}
 use Rattle.lucid_ports.specs.Faults.{AsksNoneLate}
 use Rattle.lucid_tree.specs.WellMade.{IsWellMade}

@@ -1,4 +1,5 @@
 pub mod Tasks
+pub mod Asked
 pub mod Judged
 pub mod Flat
 pub mod Tables
@@ -22,6 +23,7 @@ pub mod Clauses
 pub mod Headline
 pub mod Witness
 pub mod Coming
+pub mod Parts
 pub mod Laws
 pub mod Solutions
 pub mod LeastFamily

@@ -1,9 +1,7 @@
 //! Checking a certificate of a program.
 ghost use Rattle.std.specs.Prelude.{◌≡◌, ◌≢◌, ◌≤◌, ◌<◌, ◌+◌, ◌⊎◌, ◌∷◌, ◌++◌, [], ℕ, AllPairs, length, IfOk, IfErr, OnOk};
-ghost use Rattle.std.specs.String.{string_bytes};
 ghost use Rattle.lucid_tree.specs.Members.{In};
 ghost use Rattle.lucid_ports.specs.Faults.{AsksNoneLate, EndsAtItsFault};
-ghost use Rattle.lucid_ports.specs.World.{World};
 ghost use Rattle.lucid_equations.specs.Programs.{table_of};
 ghost use Rattle.lucid_ports.specs.Told.{told};
 ghost use Rattle.lucid_session.specs.Subject.{table_stream};
@@ -18,13 +16,13 @@ ghost use Rattle.lucid_report.specs.Refusals.{IsRefusalOf};
 ghost use Rattle.lucid_top.specs.Runs.{viewed};
 ghost use Rattle.lucid_top.specs.Writing.{WritesOnly};
 
+use crate::basis::Basis;
 use crate::places::read_certificate_file;
 use crate::running::{large_stop, unread_inputs};
 use crate::writing::write_out;
 use lucid_cert::{CheckFault, check_why};
 use lucid_cert_rules::following_laws::what_follows_is_meant;
 use lucid_cert_rules::{Why, read_why};
-use lucid_equations::Program;
 use lucid_inputs::{fresh_fits, keeps_within};
 use lucid_ports::{Places, Sink};
 use lucid_report::{Done, Refusal, Stop};
@@ -92,26 +90,23 @@ fn write_last<K: Sink>(alloc: Global, why: &Why, out: &mut K) -> Result<Done, St
     write_out(&line, out)
 }
 
-/// Checks a certificate of the program over the places of its inputs, which have these names, and writes the value and the time of its last
-/// judgment.
+/// Checks a certificate of the program over the places of its inputs, and writes the value and the time of its last judgment.
 pub fn check_program<P: Places, K: Sink>(
-    alloc: Global,
-    names: &[Name],
-    program: &Program,
+    basis: Basis<'_>,
     why: &Why,
     numbers: Vec<u32>,
     places: &mut P,
     out: &mut K,
 ) -> Result<Done, Stop>
     requires some { 0 < length why.now.judgments }
-    requires names { names.now ≡ (table_of program.now).inputs }
-    requires count { length numbers.items ≡ length names.now }
+    requires names { basis.names.now ≡ (table_of basis.program.now).inputs }
+    requires count { length numbers.items ≡ length basis.names.now }
     requires differ { AllPairs (λ a b. a ≢ b) numbers.items }
     requires unread { AreUnread numbers.items (P.world places.old) }
-    ensures checks { (w : PlainWords) → Checks (table_of program.now) (table_stream (table_of program.now)) why.now
-        (viewed w names.now numbers.items (P.world places.old) (P.world places.new) (told K.written K.faults K.late out.old) (told K.written K.faults K.late out.new))
+    ensures checks { (w : PlainWords) → Checks (table_of basis.entry.program.now) (table_stream (table_of basis.entry.program.now)) why.now
+        (viewed w basis.entry.names.now numbers.items (P.world places.old) (P.world places.new) (told K.written K.faults K.late out.old) (told K.written K.faults K.late out.new))
         result }
-    ensures comes_only { CheckComesOnly names.now (P.world places.old).faults (P.world places.new).faults (K.faults out.old) (K.faults out.new) result }
+    ensures comes_only { CheckComesOnly basis.entry.names.now (P.world places.old).faults (P.world places.new).faults (K.faults out.old) (K.faults out.new) result }
     ensures reached { (P.world places.new).reached ≡ (P.world places.old).reached }
     ensures asked { (P.world places.new).asked ≡ (P.world places.old).asked }
     ensures others { (k : ℕ) → In k numbers.items ⊎ ((P.world places.new).place k ≡ (P.world places.old).place k) }
@@ -124,6 +119,12 @@ pub fn check_program<P: Places, K: Sink>(
     what_follows_is_meant();
     fresh_fits();
     keeps_within();
+    let Basis {
+        alloc,
+        names,
+        program,
+        ..
+    } = basis;
     // The program's numbers are in range.
     let _ = program.table();
     let mut inputs = unread_inputs(alloc, numbers)?;

@@ -1,5 +1,5 @@
 //! The files of a program's inputs.
-ghost use Rattle.std.specs.Prelude.{◌≡◌, length, map, option_map, take, IfOk, IfErr, OnOk, ◌<◌, ◌≤◌};
+ghost use Rattle.std.specs.Prelude.{◌≡◌, length, map, option_map, IfOk, IfErr, OnOk, ◌<◌};
 ghost use Rattle.std.specs.List.{list_any};
 ghost use Rattle.lucid_tree.specs.Env.{same_name};
 ghost use Rattle.lucid_words.specs.Plain.{plain_given};

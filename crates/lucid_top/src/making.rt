@@ -2,42 +2,29 @@
 ghost use Rattle.std.specs.Prelude.{◌≡◌, ◌≢◌, ◌≤◌, ◌<◌, ◌-◌, ◌^◌, ◌⊎◌, ℕ, AllPairs, length};
 ghost use Rattle.lucid_tree.specs.Members.{In};
 ghost use Rattle.lucid_ports.specs.Faults.{AsksNoneLate, EndsAtItsFault};
-ghost use Rattle.lucid_ports.specs.World.{World};
 ghost use Rattle.lucid_equations.specs.Programs.{table_of};
 ghost use Rattle.lucid_demand_steps.specs.Faults.{OnTooLarge};
 ghost use Rattle.lucid_cert_rules.specs.WhyTexts.{MayBeShown, IsTextOf};
 ghost use Rattle.lucid_ports.specs.Told.{told};
 ghost use Rattle.lucid_session.specs.Subject.{table_stream};
 ghost use Rattle.lucid_words.specs.Asked.{plain_words};
-ghost use Rattle.lucid_words.specs.Numbers.{IsFromToIfGiven};
-ghost use Rattle.lucid_top.specs.Tasks.{time_asked};
 ghost use Rattle.lucid_top.specs.Makes.{Makes, MakingComesOnly, IsMakingStop};
 ghost use Rattle.lucid_top.specs.Places.{AreUnread, CountsNoRead, CountsNoWrite};
 ghost use Rattle.lucid_top.specs.Runs.{viewed};
 ghost use Rattle.lucid_top.specs.Writing.{WritesOnly};
 
+use crate::basis::Basis;
 use crate::running::{large_stop, unread_inputs};
 use crate::writing::write_out;
 use lucid_cert::certify;
 use lucid_cert_rules::following_laws::what_follows_is_meant;
 use lucid_cert_rules::{Why, show_why};
 use lucid_demand::DemandFault;
-use lucid_equations::Program;
 use lucid_inputs::{fresh_fits, keeps_within};
 use lucid_ports::{Places, Sink};
 use lucid_report::{Done, Stop};
 use lucid_value::Name;
-use lucid_words::Words;
 use std::alloc::Global;
-
-// The time of the value whose certificate is asked for.
-fn time_asked(words: &Words) -> u64
-    requires { IsFromToIfGiven 0 (2 ^ 63 - 1) words.now.why }
-    ensures time { result ≡ time_asked (plain_words words.now) }
-    ensures within { result < 2 ^ 63 }
-{
-    words.why.unwrap_or(0)
-}
 
 // Why no certificate was made, with the name of an input that is too large.
 fn making_stop(inputs: &[Name], time: u64, fault: DemandFault) -> Stop
@@ -70,26 +57,23 @@ fn write_why<K: Sink>(alloc: Global, why: &Why, out: &mut K) -> Result<Done, Sto
     write_out(&text, out)
 }
 
-/// Makes a certificate of the program's value at the time that the words ask for, over the places of its inputs, which have these names, and
-/// writes its text.
+/// Makes a certificate of the program's value at the time, over the places of its inputs, and writes its text.
 pub fn make_program<P: Places, K: Sink>(
-    alloc: Global,
-    words: &Words,
-    names: &[Name],
-    program: &Program,
+    basis: Basis<'_>,
+    time: u64,
     numbers: Vec<u32>,
     places: &mut P,
     out: &mut K,
 ) -> Result<Done, Stop>
-    requires time { IsFromToIfGiven 0 (2 ^ 63 - 1) words.now.why }
-    requires names { names.now ≡ (table_of program.now).inputs }
-    requires count { length numbers.items ≡ length names.now }
+    requires time { time < 2 ^ 63 }
+    requires names { basis.names.now ≡ (table_of basis.program.now).inputs }
+    requires count { length numbers.items ≡ length basis.names.now }
     requires differ { AllPairs (λ a b. a ≢ b) numbers.items }
     requires unread { AreUnread numbers.items (P.world places.old) }
-    ensures makes { Makes (table_of program.now) (table_stream (table_of program.now))
-        (viewed (plain_words words.now) names.now numbers.items (P.world places.old) (P.world places.new) (told K.written K.faults K.late out.old) (told K.written K.faults K.late out.new))
-        (time_asked (plain_words words.now)) result }
-    ensures comes_only { MakingComesOnly names.now (time_asked (plain_words words.now)) (P.world places.old).faults (P.world places.new).faults (K.faults out.old) (K.faults out.new) result }
+    ensures makes { Makes (table_of basis.entry.program.now) (table_stream (table_of basis.entry.program.now))
+        (viewed (plain_words basis.entry.words.now) basis.entry.names.now numbers.items (P.world places.old) (P.world places.new) (told K.written K.faults K.late out.old) (told K.written K.faults K.late out.new))
+        time result }
+    ensures comes_only { MakingComesOnly basis.entry.names.now time (P.world places.old).faults (P.world places.new).faults (K.faults out.old) (K.faults out.new) result }
     ensures reached { (P.world places.new).reached ≡ (P.world places.old).reached }
     ensures asked { (P.world places.new).asked ≡ (P.world places.old).asked }
     ensures others { (k : ℕ) → In k numbers.items ⊎ ((P.world places.new).place k ≡ (P.world places.old).place k) }
@@ -102,10 +86,15 @@ pub fn make_program<P: Places, K: Sink>(
     what_follows_is_meant();
     fresh_fits();
     keeps_within();
+    let Basis {
+        alloc,
+        words,
+        names,
+        program,
+    } = basis;
     // The program's numbers are in range.
     let _ = program.table();
     let mut inputs = unread_inputs(alloc, numbers)?;
-    let time = time_asked(words);
     let depth = words.options.depth;
     match certify(alloc, program, places, &mut inputs, time, depth) {
         Ok(why) => write_why(alloc, &why, out),

@@ -3,7 +3,6 @@ ghost use Rattle.std.specs.Prelude.{◌≡◌, ◌≢◌, ◌≤◌, ◌<◌, �
 ghost use Rattle.lucid_tree.specs.Members.{In};
 ghost use Rattle.lucid_ports.specs.Faults.{AsksNoneLate, EndsAtItsFault};
 ghost use Rattle.lucid_ports.specs.Limits.{most_asked};
-ghost use Rattle.lucid_ports.specs.World.{World};
 ghost use Rattle.lucid_equations.specs.Programs.{table_of};
 ghost use Rattle.lucid_words.specs.Asked.{plain_words};
 ghost use Rattle.lucid_words.specs.Numbers.{IsFromTo};
@@ -15,12 +14,14 @@ ghost use Rattle.lucid_session.specs.Runs.{policy_view, run_view, OnTooLarge};
 ghost use Rattle.lucid_ports.specs.Told.{told};
 ghost use Rattle.lucid_session.specs.Sessions.{Promises};
 ghost use Rattle.lucid_top.specs.Tasks.{wants_figures};
+ghost use Rattle.lucid_top.specs.Asked.{columns_asked};
 ghost use Rattle.lucid_top.specs.Places.{AreUnread, CountsNoRead, CountsNoWrite};
 ghost use Rattle.lucid_top.specs.Programs.{program_subject, program_counted};
 ghost use Rattle.lucid_top.specs.Policies.{policy_named, policy_asked};
 ghost use Rattle.lucid_top.specs.Runs.{viewed, under, most_input_bytes, table_program, RanSo};
 ghost use Rattle.lucid_top.specs.Running.{RunComesOnly, IsRunStop, IsLargeStop};
 
+use crate::terms::{Choices, Reached, Terms};
 use lucid_equations::Program;
 use lucid_inputs::{Inputs, fresh_fits};
 use lucid_ports::{Places, RunFault, Sink, Summary};
@@ -105,58 +106,61 @@ fn run_stop(inputs: &[Name], fault: RunFault, stats: bool) -> Stop
     }
 }
 
-// Runs the program's root; or where the words name columns, its root at as many spaces, side by side.
+// Runs the program's root; or where there are columns, its root at as many spaces, side by side.
 fn run_streams<R: Retire, S: Pick, P: Places, K: Sink>(
-    alloc: Global,
-    words: &Words,
+    terms: Terms<'_, R, S>,
     program: Program,
     inputs: Inputs,
-    policy: R,
-    pick: S,
     places: &mut P,
     out: &mut K,
 ) -> Result<Summary, RunFault>
-    requires columns { length (plain_words words.now).columns ≤ 16 }
+    requires columns { length (plain_words terms.words.now).columns ≤ 16 }
+    requires asked { option_map (λ names. names.now) terms.columns ≡ columns_asked (plain_words terms.words.now) }
     requires streams { length (streams inputs) ≡ length (table_of program).inputs }
     requires askable { AreAskable (streams inputs) (P.world places.old) }
-    ensures { Promises (program_subject (table_program (plain_words words.now) (table_of program))) (program_counted (table_program (plain_words words.now) (table_of program)))
-        (run_view words.now.options (policy_view R.keeps R.empties R.most policy) (table_of program) inputs (P.world places.old) (P.world places.new) (told K.written K.faults K.late out.old) (told K.written K.faults K.late out.new)) result }
+    ensures { Promises (program_subject (table_program (plain_words terms.entry.words.now) (table_of program))) (program_counted (table_program (plain_words terms.entry.words.now) (table_of program)))
+        (run_view terms.entry.words.now.options (policy_view R.keeps R.empties R.most terms.entry.choices.policy) (table_of program) inputs (P.world places.old) (P.world places.new) (told K.written K.faults K.late out.old) (told K.written K.faults K.late out.new)) result }
 {
+    let Terms {
+        alloc,
+        words,
+        columns,
+        choices,
+    } = terms;
+    let Choices { policy, pick } = choices;
     let options = &words.options;
-    if words.columns.is_empty() {
-        run(alloc, program, places, inputs, out, policy, pick, options)
-    } else {
-        let columns = words.columns.len() as u32;
-        run_columns(
-            alloc, program, columns, places, inputs, out, policy, pick, options,
-        )
+    match columns {
+        None => run(alloc, program, places, inputs, out, policy, pick, options),
+        Some(names) => {
+            let columns = names.len() as u32;
+            run_columns(
+                alloc, program, columns, places, inputs, out, policy, pick, options,
+            )
+        }
     }
 }
 
-/// Runs the program over the places of its inputs, which have these names.
+/// Runs the program over the places of its inputs.
 pub fn run_program<R: Retire, S: Pick, P: Places, K: Sink>(
-    alloc: Global,
-    words: &Words,
-    names: &[Name],
+    terms: Terms<'_, R, S>,
     program: Program,
-    numbers: Vec<u32>,
-    policy: R,
-    pick: S,
+    reached: Reached<'_>,
     places: &mut P,
     out: &mut K,
 ) -> Result<Done, Stop>
-    requires columns { length (plain_words words.now).columns ≤ 16 }
-    requires names { names.now ≡ (table_of program).inputs }
-    requires count { length numbers.items ≡ length names.now }
-    requires differ { AllPairs (λ a b. a ≢ b) numbers.items }
-    requires unread { AreUnread numbers.items (P.world places.old) }
-    ensures ran { RanSo (table_program (plain_words words.now) (table_of program))
-        (under (policy_view R.keeps R.empties R.most policy) (viewed (plain_words words.now) names.now numbers.items (P.world places.old) (P.world places.new) (told K.written K.faults K.late out.old) (told K.written K.faults K.late out.new)))
+    requires columns { length (plain_words terms.words.now).columns ≤ 16 }
+    requires asked { option_map (λ names. names.now) terms.columns ≡ columns_asked (plain_words terms.words.now) }
+    requires names { reached.names.now ≡ (table_of program).inputs }
+    requires count { length reached.numbers.items ≡ length reached.names.now }
+    requires differ { AllPairs (λ a b. a ≢ b) reached.numbers.items }
+    requires unread { AreUnread reached.numbers.items (P.world places.old) }
+    ensures ran { RanSo (table_program (plain_words terms.entry.words.now) (table_of program))
+        (under (policy_view R.keeps R.empties R.most terms.entry.choices.policy) (viewed (plain_words terms.entry.words.now) reached.entry.names.now reached.entry.numbers.items (P.world places.old) (P.world places.new) (told K.written K.faults K.late out.old) (told K.written K.faults K.late out.new)))
         result }
-    ensures comes_only { RunComesOnly (policy_view R.keeps R.empties R.most policy) (plain_words words.now) names.now (P.world places.old).faults (P.world places.new).faults (K.faults out.old) (K.faults out.new) result }
+    ensures comes_only { RunComesOnly (policy_view R.keeps R.empties R.most terms.entry.choices.policy) (plain_words terms.entry.words.now) reached.entry.names.now (P.world places.old).faults (P.world places.new).faults (K.faults out.old) (K.faults out.new) result }
     ensures reached { (P.world places.new).reached ≡ (P.world places.old).reached }
     ensures asked { (P.world places.new).asked ≡ (P.world places.old).asked }
-    ensures others { (k : ℕ) → In k numbers.items ⊎ ((P.world places.new).place k ≡ (P.world places.old).place k) }
+    ensures others { (k : ℕ) → In k reached.entry.numbers.items ⊎ ((P.world places.new).place k ≡ (P.world places.old).place k) }
     ensures bytes { (k : ℕ) → option_map all_bytes ((P.world places.new).place k).contents ≡ option_map all_bytes ((P.world places.old).place k).contents }
     ensures faults { (P.world places.old).faults ≤ (P.world places.new).faults }
     ensures counts_no_read { CountsNoRead result (P.world places.old) (P.world places.new) }
@@ -165,9 +169,10 @@ pub fn run_program<R: Retire, S: Pick, P: Places, K: Sink>(
     ensures write_late { EndsAtItsFault (K.faults out.old) (K.late out.old) (K.late out.new) }
 {
     fresh_fits();
-    let inputs = unread_inputs(alloc, numbers)?;
-    let stats = wants_figures(words);
-    match run_streams(alloc, words, program, inputs, policy, pick, places, out) {
+    let Reached { names, numbers } = reached;
+    let inputs = unread_inputs(terms.alloc, numbers)?;
+    let stats = wants_figures(terms.words);
+    match run_streams(terms, program, inputs, places, out) {
         Ok(summary) => Ok(Done::Ran { summary, stats }),
         Err(fault) => Err(run_stop(names, fault, stats)),
     }

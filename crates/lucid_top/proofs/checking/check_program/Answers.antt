@@ -9,8 +9,8 @@ use Rattle.lucid_top.proofs.checking.check_program.Goals as goal
 pub returns-in_err-inputs-clause-checks : goal.returns-in_err-inputs-clause-checks
 returns-in_err-inputs-clause-checks g c w =
     let p = err_from_is_err_and c.from_residual.result c.from_residual.ensures.1 in
-    unmade (table_of c.args.program.now) (table_stream (table_of c.args.program.now)) c.args.why.now
-    (viewed w c.args.names.now c.args.numbers.items (g.P.Places.world c.args.places.now) (g.P.Places.world c.args.places.now)
+    unmade (table_of c.args.basis.program.now) (table_stream (table_of c.args.basis.program.now)) c.args.why.now
+    (viewed w c.args.basis.names.now c.args.numbers.items (g.P.Places.world c.args.places.now) (g.P.Places.world c.args.places.now)
     (told g.K.Sink.written g.K.Sink.faults g.K.Sink.late c.args.out.now) (told g.K.Sink.written g.K.Sink.faults g.K.Sink.late c.args.out.now))
     c.from_residual.result p.0 p.1 p.2 refl (λ k n q is old new a b. same_contents _ old new a b)
 
@@ -21,13 +21,13 @@ check_why-requires-clause-askable g c =
 
 pub check_stop-requires : goal.check_stop-requires
 check_stop-requires g c =
-    large_there (table_of c.args.program.now) c.table.ensures.in_range c.args.why.now c.args.names.now c.in_ok-inputs.inputs c.check_why.new.inputs
+    large_there (table_of c.args.basis.program.now) c.table.ensures.in_range c.args.why.now c.args.basis.names.now c.in_ok-inputs.inputs c.check_why.new.inputs
     (g.P.Places.world c.args.places.now) (g.P.Places.world c.check_why.new.places)
     c.in-Err.fault c.requires.names c.in-Err.ensures
 
 pub returns-in-Ok-clause-checks : goal.returns-in-Ok-clause-checks
 returns-in-Ok-clause-checks g c w =
-    right_ends c.what_follows_is_meant.ensures c.keeps_within.ensures (table_of c.args.program.now) c.table.ensures.in_range c.args.why.now c.args.names.now
+    right_ends c.what_follows_is_meant.ensures c.keeps_within.ensures (table_of c.args.basis.program.now) c.table.ensures.in_range c.args.why.now c.args.basis.names.now
     c.args.numbers.items c.in_ok-inputs.inputs c.check_why.new.inputs
     (g.P.Places.world c.args.places.now) (g.P.Places.world c.check_why.new.places) (told g.K.Sink.written g.K.Sink.faults g.K.Sink.late c.args.out.now)
     (told g.K.Sink.written g.K.Sink.faults g.K.Sink.late c.write_last.new.out)
@@ -41,7 +41,7 @@ returns-in-Ok-clause-others g c k =
 
 pub returns-clause-checks : goal.returns-clause-checks
 returns-clause-checks g c w =
-    fault_ends c.what_follows_is_meant.ensures c.keeps_within.ensures (table_of c.args.program.now) c.table.ensures.in_range c.args.why.now c.args.names.now
+    fault_ends c.what_follows_is_meant.ensures c.keeps_within.ensures (table_of c.args.basis.program.now) c.table.ensures.in_range c.args.why.now c.args.basis.names.now
     c.args.numbers.items c.in_ok-inputs.inputs c.check_why.new.inputs
     (g.P.Places.world c.args.places.now) (g.P.Places.world c.check_why.new.places) (told g.K.Sink.written g.K.Sink.faults g.K.Sink.late c.args.out.now)
     (told g.K.Sink.written g.K.Sink.faults g.K.Sink.late c.args.out.now)

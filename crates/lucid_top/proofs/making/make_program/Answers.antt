@@ -1,4 +1,4 @@
-use Rattle.lucid_top.proofs.Common.{◌≡◌, ◌⊎◌, refl, subst, arith, Err, err_from_is_err_and, In, table_of, plain_words, told, viewed, Makes, time_asked}
+use Rattle.lucid_top.proofs.Common.{◌≡◌, ◌⊎◌, refl, subst, arith, err_from_is_err_and, In, table_of, plain_words, told, viewed}
 use Rattle.lucid_inputs.specs.Inputs.{streams}
 use Rattle.lucid_session.specs.Subject.{table_stream}
 use Rattle.lucid_top.proofs.Asking.{askable, places_are}
@@ -10,10 +10,10 @@ use Rattle.lucid_top.proofs.making.make_program.Goals as goal
 pub returns-in_err-inputs-clause-makes : goal.returns-in_err-inputs-clause-makes
 returns-in_err-inputs-clause-makes g c =
     let p = err_from_is_err_and c.from_residual.result c.from_residual.ensures.1 in
-    unmade (table_of c.args.program.now) (table_stream (table_of c.args.program.now))
-    (viewed (plain_words c.args.words.now) c.args.names.now c.args.numbers.items (g.P.Places.world c.args.places.now) (g.P.Places.world c.args.places.now)
+    unmade (table_of c.args.basis.program.now) (table_stream (table_of c.args.basis.program.now))
+    (viewed (plain_words c.args.basis.words.now) c.args.basis.names.now c.args.numbers.items (g.P.Places.world c.args.places.now) (g.P.Places.world c.args.places.now)
     (told g.K.Sink.written g.K.Sink.faults g.K.Sink.late c.args.out.now) (told g.K.Sink.written g.K.Sink.faults g.K.Sink.late c.args.out.now))
-    (time_asked (plain_words c.args.words.now)) c.from_residual.result p.0 p.1 p.2 refl (λ k n q is old new a b. same_contents _ old new a b)
+    c.args.time c.from_residual.result p.0 p.1 p.2 refl (λ k n q is old new a b. same_contents _ old new a b)
 
 pub certify-requires-clause-askable : goal.certify-requires-clause-askable
 certify-requires-clause-askable g c =
@@ -21,24 +21,24 @@ certify-requires-clause-askable g c =
     c.requires.unread
 
 pub write_why-requires-clause-shown : goal.write_why-requires-clause-shown
-write_why-requires-clause-shown g c = (made_one (table_of c.args.program.now) c.time_asked-time.result c.certify.new.inputs c.in-Ok.why
+write_why-requires-clause-shown g c = (made_one (table_of c.args.basis.program.now) c.args.time c.certify.new.inputs c.in-Ok.why
     c.in-Ok.ensures.made.made).shown
 
 pub write_why-requires-clause-some : goal.write_why-requires-clause-some
 write_why-requires-clause-some g c =
-    let last = (made_one (table_of c.args.program.now) c.time_asked-time.result c.certify.new.inputs c.in-Ok.why c.in-Ok.ensures.made.made).right.last_number in
+    let last = (made_one (table_of c.args.basis.program.now) c.args.time c.certify.new.inputs c.in-Ok.why c.in-Ok.ensures.made.made).right.last_number in
     omega (arith, last)
 
 pub making_stop-requires : goal.making_stop-requires
 making_stop-requires g c =
-    large_there (table_of c.args.program.now) c.time_asked-time.result c.args.words.now.options.depth c.args.names.now c.in_ok-inputs.inputs
+    large_there (table_of c.args.basis.program.now) c.args.time c.args.basis.words.now.options.depth c.args.basis.names.now c.in_ok-inputs.inputs
     c.certify.new.inputs (g.P.Places.world c.certify.new.places)
     c.in-Err.fault c.requires.names c.in-Err.ensures.demanded
 
 pub returns-in-Ok-clause-makes : goal.returns-in-Ok-clause-makes
 returns-in-Ok-clause-makes g c =
-    let T = table_of c.args.program.now in
-    let w = plain_words c.args.words.now in
+    let T = table_of c.args.basis.program.now in
+    let w = plain_words c.args.basis.words.now in
     let before = g.P.Places.world c.args.places.now in
     let after = g.P.Places.world c.certify.new.places in
     let out = told g.K.Sink.written g.K.Sink.faults g.K.Sink.late c.args.out.now in
@@ -52,12 +52,10 @@ returns-in-Ok-clause-makes g c =
       askable = made.askable;
       reads_only = made.reads_only;
     } in
-    subst (λ t. Makes T (table_stream T) (viewed w c.args.names.now c.args.numbers.items before after out out_after) t c.write_why.result)
-    c.time_asked-time.ensures.time
-    (made_ends T c.time_asked-time.result c.args.names.now c.args.numbers.items c.in_ok-inputs.inputs c.certify.new.inputs before after out out_after
+    made_ends T c.args.time c.args.basis.names.now c.args.numbers.items c.in_ok-inputs.inputs c.certify.new.inputs before after out out_after
     c.requires.names c.requires.count on w
     c.keeps_within.ensures c.in-Ok.ensures.demanded.drawn c.what_follows_is_meant.ensures c.table.ensures.in_range c.in-Ok.why made.made c.write_why.result
-    c.write_why.ensures.writes)
+    c.write_why.ensures.writes
 
 pub returns-in-Ok-clause-others : goal.returns-in-Ok-clause-others
 returns-in-Ok-clause-others g c k =
@@ -66,8 +64,8 @@ returns-in-Ok-clause-others g c k =
 
 pub returns-clause-makes : goal.returns-clause-makes
 returns-clause-makes g c =
-    let T = table_of c.args.program.now in
-    let w = plain_words c.args.words.now in
+    let T = table_of c.args.basis.program.now in
+    let w = plain_words c.args.basis.words.now in
     let before = g.P.Places.world c.args.places.now in
     let after = g.P.Places.world c.certify.new.places in
     let out = told g.K.Sink.written g.K.Sink.faults g.K.Sink.late c.args.out.now in
@@ -80,11 +78,9 @@ returns-clause-makes g c =
       askable = made.askable;
       reads_only = made.reads_only;
     } in
-    subst (λ t. Makes T (table_stream T) (viewed w c.args.names.now c.args.numbers.items before after out out) t (Err c.making_stop.result))
-    c.time_asked-time.ensures.time
-    (fault_ends T c.time_asked-time.result c.args.names.now c.args.numbers.items c.in_ok-inputs.inputs c.certify.new.inputs before after out out
+    fault_ends T c.args.time c.args.basis.names.now c.args.numbers.items c.in_ok-inputs.inputs c.certify.new.inputs before after out out
     c.requires.names c.requires.count on w
-    c.keeps_within.ensures c.in-Err.ensures.demanded.drawn refl c.in-Err.fault c.in-Err.ensures.demanded c.making_stop.result c.making_stop.ensures)
+    c.keeps_within.ensures c.in-Err.ensures.demanded.drawn refl c.in-Err.fault c.in-Err.ensures.demanded c.making_stop.result c.making_stop.ensures
 
 pub returns-clause-others : goal.returns-clause-others
 returns-clause-others g c k =

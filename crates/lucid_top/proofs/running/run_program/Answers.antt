@@ -12,42 +12,42 @@ use Rattle.lucid_top.proofs.running.run_program.Goals as goal
 pub returns-in_err-inputs-clause-ran : goal.returns-in_err-inputs-clause-ran
 returns-in_err-inputs-clause-ran g c =
     let p = err_from_is_err_and c.from_residual.result c.from_residual.ensures.1 in
-    no_memory (table_program (plain_words c.args.words.now) (table_of c.args.program))
-    (under (policy_view g.R.Retire.keeps g.R.Retire.empties g.R.Retire.most c.args.policy)
-    (viewed (plain_words c.args.words.now) (c.args.names.now) c.args.numbers.items (g.P.Places.world c.args.places.now) (g.P.Places.world c.args.places.now)
+    no_memory (table_program (plain_words c.args.terms.words.now) (table_of c.args.program))
+    (under (policy_view g.R.Retire.keeps g.R.Retire.empties g.R.Retire.most c.args.terms.choices.policy)
+    (viewed (plain_words c.args.terms.words.now) (c.args.reached.names.now) c.args.reached.numbers.items (g.P.Places.world c.args.places.now) (g.P.Places.world c.args.places.now)
     (told g.K.Sink.written g.K.Sink.faults g.K.Sink.late c.args.out.now) (told g.K.Sink.written g.K.Sink.faults g.K.Sink.late c.args.out.now)))
     c.from_residual.result p.0 p.1 p.2 refl (λ k n q is old new a b. same_contents _ old new a b)
 
 pub run_streams-requires-clause-askable : goal.run_streams-requires-clause-askable
 run_streams-requires-clause-askable g c =
-    askable c.fresh_fits.ensures (streams c.in_ok-inputs.inputs) c.args.numbers.items (g.P.Places.world c.args.places.now) c.in_ok-inputs.ensures.streams
+    askable c.fresh_fits.ensures (streams c.in_ok-inputs.inputs) c.args.reached.numbers.items (g.P.Places.world c.args.places.now) c.in_ok-inputs.ensures.streams
     c.requires.unread
 
 pub returns-in-Ok-clause-ran : goal.returns-in-Ok-clause-ran
 returns-in-Ok-clause-ran g c =
-    seen_same (table_program (plain_words c.args.words.now) (table_of c.args.program)) (plain_words c.args.words.now) (g.P.Places.world c.args.places.now)
+    seen_same (table_program (plain_words c.args.terms.words.now) (table_of c.args.program)) (plain_words c.args.terms.words.now) (g.P.Places.world c.args.places.now)
     (g.P.Places.world c.run_streams.new.places)
     (told g.K.Sink.written g.K.Sink.faults g.K.Sink.late c.args.out.now) (told g.K.Sink.written g.K.Sink.faults g.K.Sink.late c.run_streams.new.out) (Ok c.in-Ok.summary)
-    (policy_view g.R.Retire.keeps g.R.Retire.empties g.R.Retire.most c.args.policy)
-    (table_of c.args.program).inputs c.args.names.now (places_of (streams c.in_ok-inputs.inputs)) c.args.numbers.items (most_bytes c.in_ok-inputs.inputs)
-    (sym c.requires.names) (places_are (streams c.in_ok-inputs.inputs) c.args.numbers.items c.in_ok-inputs.ensures.streams)
+    (policy_view g.R.Retire.keeps g.R.Retire.empties g.R.Retire.most c.args.terms.choices.policy)
+    (table_of c.args.program).inputs c.args.reached.names.now (places_of (streams c.in_ok-inputs.inputs)) c.args.reached.numbers.items (most_bytes c.in_ok-inputs.inputs)
+    (sym c.requires.names) (places_are (streams c.in_ok-inputs.inputs) c.args.reached.numbers.items c.in_ok-inputs.ensures.streams)
     c.in_ok-inputs.ensures.most
     (λ b has. (c.in-Ok.ensures.headline b has, c.in-Ok.ensures.figures b has))
 
 pub returns-in-Err-clause-ran : goal.returns-in-Err-clause-ran
 returns-in-Err-clause-ran g c =
-    stopped_run (table_program (plain_words c.args.words.now) (table_of c.args.program))
-    (under (policy_view g.R.Retire.keeps g.R.Retire.empties g.R.Retire.most c.args.policy)
-    (viewed (plain_words c.args.words.now) (c.args.names.now) c.args.numbers.items (g.P.Places.world c.args.places.now)
+    stopped_run (table_program (plain_words c.args.terms.words.now) (table_of c.args.program))
+    (under (policy_view g.R.Retire.keeps g.R.Retire.empties g.R.Retire.most c.args.terms.choices.policy)
+    (viewed (plain_words c.args.terms.words.now) (c.args.reached.names.now) c.args.reached.numbers.items (g.P.Places.world c.args.places.now)
     (g.P.Places.world c.run_streams.new.places) (told g.K.Sink.written g.K.Sink.faults g.K.Sink.late c.args.out.now)
     (told g.K.Sink.written g.K.Sink.faults g.K.Sink.late c.run_streams.new.out)))
-    c.args.names.now c.wants_figures-stats.result c.in-Err.fault c.run_stop.result c.run_stop.ensures
-    (seen_same (table_program (plain_words c.args.words.now) (table_of c.args.program)) (plain_words c.args.words.now) (g.P.Places.world c.args.places.now)
+    c.args.reached.names.now c.wants_figures-stats.result c.in-Err.fault c.run_stop.result c.run_stop.ensures
+    (seen_same (table_program (plain_words c.args.terms.words.now) (table_of c.args.program)) (plain_words c.args.terms.words.now) (g.P.Places.world c.args.places.now)
     (g.P.Places.world c.run_streams.new.places)
     (told g.K.Sink.written g.K.Sink.faults g.K.Sink.late c.args.out.now) (told g.K.Sink.written g.K.Sink.faults g.K.Sink.late c.run_streams.new.out) (Err c.in-Err.fault)
-    (policy_view g.R.Retire.keeps g.R.Retire.empties g.R.Retire.most c.args.policy)
-    (table_of c.args.program).inputs c.args.names.now (places_of (streams c.in_ok-inputs.inputs)) c.args.numbers.items (most_bytes c.in_ok-inputs.inputs)
-    (sym c.requires.names) (places_are (streams c.in_ok-inputs.inputs) c.args.numbers.items c.in_ok-inputs.ensures.streams)
+    (policy_view g.R.Retire.keeps g.R.Retire.empties g.R.Retire.most c.args.terms.choices.policy)
+    (table_of c.args.program).inputs c.args.reached.names.now (places_of (streams c.in_ok-inputs.inputs)) c.args.reached.numbers.items (most_bytes c.in_ok-inputs.inputs)
+    (sym c.requires.names) (places_are (streams c.in_ok-inputs.inputs) c.args.reached.numbers.items c.in_ok-inputs.ensures.streams)
     c.in_ok-inputs.ensures.most
     (λ b has. (c.in-Err.ensures.headline b has, c.in-Err.ensures.figures b has)))
 
@@ -57,12 +57,12 @@ run_stop-requires g c = subst (λ names. OnTooLarge c.in-Err.fault (λ number. n
 pub returns-in-Ok-clause-others : goal.returns-in-Ok-clause-others
 returns-in-Ok-clause-others g c k =
     subst (λ ns. In k ns ⊎ ((g.P.Places.world c.run_streams.new.places).place k ≡ (g.P.Places.world c.args.places.now).place k))
-    (places_are (streams c.in_ok-inputs.inputs) c.args.numbers.items c.in_ok-inputs.ensures.streams) (c.in-Ok.ensures.reads_only.others k)
+    (places_are (streams c.in_ok-inputs.inputs) c.args.reached.numbers.items c.in_ok-inputs.ensures.streams) (c.in-Ok.ensures.reads_only.others k)
 
 pub returns-in-Err-clause-others : goal.returns-in-Err-clause-others
 returns-in-Err-clause-others g c k =
     subst (λ ns. In k ns ⊎ ((g.P.Places.world c.run_streams.new.places).place k ≡ (g.P.Places.world c.args.places.now).place k))
-    (places_are (streams c.in_ok-inputs.inputs) c.args.numbers.items c.in_ok-inputs.ensures.streams) (c.in-Err.ensures.reads_only.others k)
+    (places_are (streams c.in_ok-inputs.inputs) c.args.reached.numbers.items c.in_ok-inputs.ensures.streams) (c.in-Err.ensures.reads_only.others k)
 
 pub returns-in-Ok-clause-bytes : goal.returns-in-Ok-clause-bytes
 returns-in-Ok-clause-bytes g c k = c.in-Ok.ensures.reads_only.bytes k
@@ -72,12 +72,12 @@ returns-in-Err-clause-bytes g c k = c.in-Err.ensures.reads_only.bytes k
 
 pub returns-in-Err-clause-counts_no_read : goal.returns-in-Err-clause-counts_no_read
 returns-in-Err-clause-counts_no_read g c =
-    run_read c.args.names.now c.wants_figures-stats.result c.in-Err.fault c.run_stop.result (g.P.Places.world c.args.places.now).faults
+    run_read c.args.reached.names.now c.wants_figures-stats.result c.in-Err.fault c.run_stop.result (g.P.Places.world c.args.places.now).faults
     (g.P.Places.world c.run_streams.new.places).faults c.run_stop.ensures c.in-Err.ensures.causes.no_other_read
 
 pub returns-in-Err-clause-counts_no_write : goal.returns-in-Err-clause-counts_no_write
 returns-in-Err-clause-counts_no_write g c =
-    run_written c.args.names.now c.wants_figures-stats.result c.in-Err.fault c.run_stop.result (g.K.Sink.faults c.args.out.now)
+    run_written c.args.reached.names.now c.wants_figures-stats.result c.in-Err.fault c.run_stop.result (g.K.Sink.faults c.args.out.now)
     (g.K.Sink.faults c.run_streams.new.out) c.run_stop.ensures c.in-Err.ensures.causes.no_other_write
 
 pub returns-in-Ok-clause-asked : goal.returns-in-Ok-clause-asked

@@ -1,6 +1,4 @@
-use Rattle.lucid_top.proofs.Common.{Some, inl, inr, refl, sym, subst, map, err_from_is_err_and, string_bytes, words_asked, plain_words, told, Call, task_of}
-use Rattle.lucid_session.specs.Runs.{policy_view}
-use Rattle.lucid_retire.specs.Policies.{keeps_all, empties_all, most_held}
+use Rattle.lucid_top.proofs.Common.{Some, refl, sym, subst, map, err_from_is_err_and, string_bytes, words_asked, plain_words, told, Call, task_of}
 use Rattle.lucid_top.specs.Call.{call, call_under}
 use Rattle.lucid_top.specs.Coming.{Does}
 use Rattle.lucid_top.proofs.Doing.{may_begin, words_do, want_does}

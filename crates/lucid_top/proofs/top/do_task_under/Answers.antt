@@ -1,4 +1,4 @@
-use Rattle.lucid_top.proofs.Common.{Some, refl, sym, subst, map, err_from_is_err_and, string_bytes, words_asked, plain_words, told, Call, task_of}
+use Rattle.lucid_top.proofs.Common.{refl, sym, subst, map, err_from_is_err_and, string_bytes, words_asked, plain_words, told, Call, task_of}
 use Rattle.lucid_session.specs.Runs.{policy_view}
 use Rattle.lucid_top.specs.Call.{call_under}
 use Rattle.lucid_top.specs.Coming.{Does}
@@ -9,7 +9,7 @@ pub returns-in_err-words : goal.returns-in_err-words
 returns-in_err-words g c =
     let w = g.P.Places.world c.args.places.now in
     let t = told g.K.Sink.written g.K.Sink.faults g.K.Sink.late c.args.out.now in
-    let policy = policy_view g.R.Retire.keeps g.R.Retire.empties g.R.Retire.most c.args.policy in
+    let policy = policy_view g.R.Retire.keeps g.R.Retire.empties g.R.Retire.most c.args.choices.policy in
     let here : Call = call_under policy (words_asked (map (string_bytes {Z = Rattle.std.specs.Global.Global}) c.args.words.now)) w w t t in
     let p = err_from_is_err_and c.from_residual.result c.from_residual.ensures.1 in
     rw (p.1, p.2) (words_do here c.in_err-words.field-0.0 c.in_err-words.ensures.asked refl refl c.requires)
@@ -25,5 +25,5 @@ returns g c =
     let after = g.P.Places.world c.do_words.new.places in
     let out_before = told g.K.Sink.written g.K.Sink.faults g.K.Sink.late c.args.out.now in
     let out_after = told g.K.Sink.written g.K.Sink.faults g.K.Sink.late c.do_words.new.out in
-    let policy = policy_view g.R.Retire.keeps g.R.Retire.empties g.R.Retire.most c.args.policy in
+    let policy = policy_view g.R.Retire.keeps g.R.Retire.empties g.R.Retire.most c.args.choices.policy in
     subst (λ asked. Does (call_under policy asked before after out_before out_after) c.do_words.result) (sym c.in_ok-words.ensures.asked) c.do_words.ensures
