@@ -7,10 +7,10 @@ ghost use Rattle.lucid_explain_report.specs.Lines.{begins, line_text};
 ghost use Rattle.lucid_explain_report.specs.Said.{or_gone, is_of_source, line_file, judgment_number, checked_file, SaysBy, Says, IsExplanation};
 
 use crate::faults::text_of_faults;
-use crate::judgments::{judgment_number, text_of_judgment};
+use crate::judgments::{Judged, judgment_number, text_of_judgment};
 use crate::lines::{begins, is_of_source, line_text};
 use crate::outlook::{Again, Outlook};
-use crate::sources::text_of_source;
+use crate::sources::{Reported, text_of_source};
 use crate::usage::text_of_words;
 use lucid_words::{Source, Words, WordsRefusal, read_words};
 use std::alloc::{AllocError, Global};
@@ -43,7 +43,15 @@ fn text_by_file(
     ensures { IfOk result (λ text. SaysBy (plain_words asked.now) name.now (plain_again again.now) line.now text.items) }
 {
     match again {
-        Again::Bytes(source) => text_of_source(alloc, asked, name.as_bytes(), source, line),
+        Again::Bytes(source) => {
+            let reported = Reported {
+                asked,
+                name: name.as_bytes(),
+                source,
+                line,
+            };
+            text_of_source(alloc, &reported)
+        }
         Again::Unread => Vec::from_slice(alloc, line_text(line)),
         Again::Gone => text_of_gone(alloc, line),
     }
@@ -94,7 +102,10 @@ fn text_of_number<F: Outlook>(
     ensures { IfOk result (λ text. Says (F.files outlook.now) (plain_words asked.now) line.now text.items) }
 {
     match &asked.source {
-        Source::File(name) => text_of_judgment(alloc, asked, name, number, line, outlook),
+        Source::File(name) => {
+            let judged = Judged { name, number, line };
+            text_of_judgment(alloc, asked, &judged, outlook)
+        }
         Source::Made(_) => text_of_itself(alloc, asked, line, outlook),
     }
 }

@@ -17,6 +17,14 @@ use std::alloc::{AllocError, Global};
 /// One byte more than a certificate or an input may have: so much of it is read again.
 pub const PAST_CERTIFICATE: usize = 268_435_457;
 
+/// A line that tells the judgment of this number in a certificate of the source in the file of this name.
+#[derive(Clone, Copy)]
+pub(crate) struct Judged<'a> {
+    pub(crate) name: &'a str,
+    pub(crate) number: u64,
+    pub(crate) line: &'a [u8],
+}
+
 /// The number of a judgment, where the words ask for a check and the line tells one.
 pub(crate) fn judgment_number(asked: &Words, line: &[u8]) -> Option<u64>
     ensures { result ≡ judgment_number (plain_words asked.now) line.now }
@@ -31,71 +39,65 @@ pub(crate) fn judgment_number(asked: &Words, line: &[u8]) -> Option<u64>
 // What is said of the judgment by the source and the certificate.
 fn text_of_piece(
     alloc: Global,
-    name: &[u8],
+    judged: &Judged<'_>,
     source: &[u8],
     certificate: &[u8],
-    number: u64,
-    line: &[u8],
 ) -> Result<Vec<u8>, AllocError>
-    ensures { IfOk result (λ text. (said : List ℕ) × TellsJudgment name.now source.now certificate.now number said × (text.items ≡ said ++ line_text line.now)) }
+    ensures { IfOk result (λ text. (said : List ℕ) × TellsJudgment judged.now.name.now source.now certificate.now judged.now.number said
+        × (text.items ≡ said ++ line_text judged.now.line.now)) }
 {
-    let mut text = explain_judgment(alloc, name, source, certificate, number)?;
-    text.extend_from_slice(line_text(line))?;
+    let name = judged.name.as_bytes();
+    let mut text = explain_judgment(alloc, name, source, certificate, judged.number)?;
+    text.extend_from_slice(line_text(judged.line))?;
     Ok(text)
 }
 
 // What is said of it by what is seen of a certificate.
 fn text_by_certificate(
     alloc: Global,
-    name: &str,
+    judged: &Judged<'_>,
     source: &[u8],
     certificate: &Again,
-    number: u64,
-    line: &[u8],
 ) -> Result<Vec<u8>, AllocError>
-    ensures { IfOk result (λ text. SaysOf name.now (holds source.now) (plain_again certificate.now) number line.now text.items) }
+    ensures { IfOk result (λ text. SaysOf judged.now.name.now (holds source.now) (plain_again certificate.now) judged.now.number judged.now.line.now text.items) }
 {
     match certificate {
-        Again::Bytes(bytes) => text_of_piece(alloc, name.as_bytes(), source, bytes, number, line),
-        Again::Unread => Vec::from_slice(alloc, line_text(line)),
-        Again::Gone => Vec::from_slice(alloc, line_text(line)),
+        Again::Bytes(bytes) => text_of_piece(alloc, judged, source, bytes),
+        Again::Unread => Vec::from_slice(alloc, line_text(judged.line)),
+        Again::Gone => Vec::from_slice(alloc, line_text(judged.line)),
     }
 }
 
 // What is said of it by what is seen of the source and of the certificate.
 fn text_by_both(
     alloc: Global,
-    name: &str,
+    judged: &Judged<'_>,
     source: &Again,
     certificate: &Again,
-    number: u64,
-    line: &[u8],
 ) -> Result<Vec<u8>, AllocError>
-    ensures { IfOk result (λ text. SaysOf name.now (plain_again source.now) (plain_again certificate.now) number line.now text.items) }
+    ensures { IfOk result (λ text. SaysOf judged.now.name.now (plain_again source.now) (plain_again certificate.now) judged.now.number judged.now.line.now text.items) }
 {
     match source {
-        Again::Bytes(bytes) => text_by_certificate(alloc, name, bytes, certificate, number, line),
-        Again::Unread => Vec::from_slice(alloc, line_text(line)),
-        Again::Gone => Vec::from_slice(alloc, line_text(line)),
+        Again::Bytes(bytes) => text_by_certificate(alloc, judged, bytes, certificate),
+        Again::Unread => Vec::from_slice(alloc, line_text(judged.line)),
+        Again::Gone => Vec::from_slice(alloc, line_text(judged.line)),
     }
 }
 
-/// What is said of a line that tells a judgment of this number of the source in the file of this name.
+/// What is said of a line that tells a judgment.
 pub(crate) fn text_of_judgment<F: Outlook>(
     alloc: Global,
     asked: &Words,
-    name: &str,
-    number: u64,
-    line: &[u8],
+    judged: &Judged<'_>,
     outlook: &F,
 ) -> Result<Vec<u8>, AllocError>
-    requires no_fault { begins line.now (codes "read fault") ≡ false }
-    requires no_file { line_file (plain_words asked.now) line.now ≡ None }
-    requires file { checked_file (plain_words asked.now) line.now ≡ Some name.now }
-    requires number { judgment_number (plain_words asked.now) line.now ≡ Some number }
-    ensures { IfOk result (λ text. Says (F.files outlook.now) (plain_words asked.now) line.now text.items) }
+    requires no_fault { begins judged.now.line.now (codes "read fault") ≡ false }
+    requires no_file { line_file (plain_words asked.now) judged.now.line.now ≡ None }
+    requires file { checked_file (plain_words asked.now) judged.now.line.now ≡ Some judged.now.name.now }
+    requires number { judgment_number (plain_words asked.now) judged.now.line.now ≡ Some judged.now.number }
+    ensures { IfOk result (λ text. Says (F.files outlook.now) (plain_words asked.now) judged.now.line.now text.items) }
 {
-    let source = outlook.reread(alloc, name, PAST_SOURCE)?;
+    let source = outlook.reread(alloc, judged.name, PAST_SOURCE)?;
     let certificate = outlook.reread(alloc, &asked.check, PAST_CERTIFICATE)?;
-    text_by_both(alloc, name, &source, &certificate, number, line)
+    text_by_both(alloc, judged, &source, &certificate)
 }

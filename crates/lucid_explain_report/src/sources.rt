@@ -38,6 +38,15 @@ pub(crate) enum Cause {
     Line,
 }
 
+/// A line that a call with these words reported, and the source in the file of this name.
+#[derive(Clone, Copy)]
+pub(crate) struct Reported<'a> {
+    pub(crate) asked: &'a Words,
+    pub(crate) name: &'a [u8],
+    pub(crate) source: &'a [u8],
+    pub(crate) line: &'a [u8],
+}
+
 // The most bytes of a source.
 const MOST_SOURCE: usize = 1_048_576;
 
@@ -211,70 +220,53 @@ fn text_of_time(
 }
 
 // What is said of the line by that of the source which explains it.
-fn text_by(
-    alloc: Global,
-    asked: &Words,
-    name: &[u8],
-    source: &[u8],
-    line: &[u8],
-) -> Result<Vec<u8>, AllocError>
-    ensures { IfOk result (λ text. TellsBy (cause_of (plain_words asked.now) source.now line.now) (plain_words asked.now) name.now source.now line.now text.items) }
+fn text_by(alloc: Global, reported: &Reported<'_>) -> Result<Vec<u8>, AllocError>
+    ensures { IfOk result (λ text. TellsBy (cause_of (plain_words reported.now.asked.now) reported.now.source.now reported.now.line.now)
+        (plain_words reported.now.asked.now) reported.now.name.now reported.now.source.now reported.now.line.now text.items) }
 {
+    let asked = reported.asked;
+    let source = reported.source;
+    let line = reported.line;
     match cause_of(asked, source, line) {
         Cause::Inputs => text_of_inputs(alloc, asked, source),
         Cause::Free => text_of_free(alloc, source, line),
         Cause::Columns => explain_columns(alloc, source),
-        Cause::Place(at) => text_of_place(alloc, name, source, at, line),
+        Cause::Place(at) => text_of_place(alloc, reported.name, source, at, line),
         Cause::Depth(time) => text_of_time(alloc, source, asked.options.depth, time, line),
         Cause::Line => Vec::from_slice(alloc, line_text(line)),
     }
 }
 
 // What is said of a source that isn't refused.
-fn text_of_accepted(
-    alloc: Global,
-    asked: &Words,
-    name: &[u8],
-    source: &[u8],
-    line: &[u8],
-) -> Result<Vec<u8>, AllocError>
-    requires { IsAccepted source.now }
-    ensures { IfOk result (λ text. Tells (plain_words asked.now) name.now source.now line.now text.items) }
+fn text_of_accepted(alloc: Global, reported: &Reported<'_>) -> Result<Vec<u8>, AllocError>
+    requires { IsAccepted reported.now.source.now }
+    ensures { IfOk result (λ text. Tells (plain_words reported.now.asked.now) reported.now.name.now reported.now.source.now reported.now.line.now text.items) }
 {
-    text_by(alloc, asked, name, source, line)
+    text_by(alloc, reported)
 }
 
 // What is said of a source that is refused so, maybe with another line.
 fn text_of_refused(
     alloc: Global,
-    asked: &Words,
-    name: &[u8],
-    source: &[u8],
-    line: &[u8],
+    reported: &Reported<'_>,
     said: Explanation,
 ) -> Result<Vec<u8>, AllocError>
-    requires { Explains name.now source.now said.line.items said.text.items }
-    ensures { IfOk result (λ text. Tells (plain_words asked.now) name.now source.now line.now text.items) }
+    requires { Explains reported.now.name.now reported.now.source.now said.line.items said.text.items }
+    ensures { IfOk result (λ text. Tells (plain_words reported.now.asked.now) reported.now.name.now reported.now.source.now reported.now.line.now text.items) }
 {
-    if is_line(line, &said.line) {
+    if is_line(reported.line, &said.line) {
         Ok(said.text)
     } else {
-        text_by(alloc, asked, name, source, line)
+        text_by(alloc, reported)
     }
 }
 
-/// What the source of this name says of the line: why it is refused, where the line is that of its refusal.
-pub(crate) fn text_of_source(
-    alloc: Global,
-    asked: &Words,
-    name: &[u8],
-    source: &[u8],
-    line: &[u8],
-) -> Result<Vec<u8>, AllocError>
-    ensures { IfOk result (λ text. Tells (plain_words asked.now) name.now source.now line.now text.items) }
+/// What the source says of the line: why it is refused, where the line is that of its refusal.
+pub(crate) fn text_of_source(alloc: Global, reported: &Reported<'_>) -> Result<Vec<u8>, AllocError>
+    ensures { IfOk result (λ text. Tells (plain_words reported.now.asked.now) reported.now.name.now reported.now.source.now reported.now.line.now text.items) }
 {
-    match explain_source(alloc, name, source)? {
-        Some(said) => text_of_refused(alloc, asked, name, source, line, said),
-        None => text_of_accepted(alloc, asked, name, source, line),
+    match explain_source(alloc, reported.name, reported.source)? {
+        Some(said) => text_of_refused(alloc, reported, said),
+        None => text_of_accepted(alloc, reported),
     }
 }

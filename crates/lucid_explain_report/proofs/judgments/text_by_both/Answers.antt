@@ -7,9 +7,9 @@ use Rattle.lucid_explain_report.proofs.judgments.text_by_both.Goals as goal
 
 pub returns-in-Bytes : goal.returns-in-Bytes
 returns-in-Bytes c =
-    let name = c.args.name.now in
-    let number = c.args.number in
-    let line = c.args.line.now in
+    let name = c.args.judged.now.name.now in
+    let number = c.args.judged.now.number in
+    let line = c.args.judged.now.line.now in
     let certificate = plain_again c.args.certificate.now in
     IfOk-weaker c.text_by_certificate.result (λ text. SaysOf name (holds c.deref.result.now) certificate number line text.items)
     (λ text. SaysOf name (plain_again c.args.source.now) certificate number line text.items)

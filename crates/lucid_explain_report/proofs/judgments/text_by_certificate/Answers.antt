@@ -9,14 +9,13 @@ use Rattle.lucid_explain_report.proofs.judgments.text_by_certificate.Goals as go
 
 pub returns-in-Bytes : goal.returns-in-Bytes
 returns-in-Bytes c =
-    let name = c.args.name.now in
+    let name = c.args.judged.now.name.now in
     let source = c.args.source.now in
-    let number = c.args.number in
-    let line = c.args.line.now in
+    let number = c.args.judged.now.number in
+    let line = c.args.judged.now.line.now in
     IfOk-weaker c.text_of_piece.result
-    (λ text. (said : List ℕ) × TellsJudgment c.as_bytes.result.now source c.deref.result.now number said × (text.items ≡ said ++ line_text line))
+    (λ text. (said : List ℕ) × TellsJudgment name source c.deref.result.now number said × (text.items ≡ said ++ line_text line))
     (λ text. SaysOf name (holds source) (plain_again c.args.certificate.now) number line text.items)
     (λ text t. let P : Again → Type 0 = λ a. SaysOf name (holds source) (plain_again a) number line text.items in
-    let Q : List ℕ → Type 0 = λ z. TellsJudgment z source c.deref.result.now number t.0 in
     let R : List ℕ → Type 0 = λ z. TellsJudgment name source z number t.0 in
-    subst P (sym c.in-Bytes.is) (t.0, subst R c.deref.ensures.value (subst Q c.as_bytes.ensures.value t.1), t.2)) c.text_of_piece.ensures
+    subst P (sym c.in-Bytes.is) (t.0, subst R c.deref.ensures.value t.1, t.2)) c.text_of_piece.ensures

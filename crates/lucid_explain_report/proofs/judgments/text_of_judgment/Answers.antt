@@ -12,8 +12,8 @@ returns g c =
     let seen = plain_again c.in_ok-source.source in
     let certificate = plain_again c.in_ok-certificate.certificate in
     let P : List ℕ → Type 0 = λ z. IsSeen files z past_certificate certificate in
-    IfOk-weaker c.text_by_both.result (λ text. SaysOf c.args.name.now seen certificate c.args.number c.args.line.now text.items)
-    (λ text. Says files asked c.args.line.now text.items)
-    (λ text t. of_judgment c.args.name.now c.args.number seen certificate c.requires.no_fault c.requires.no_file c.requires.file c.requires.number
+    IfOk-weaker c.text_by_both.result (λ text. SaysOf c.args.judged.now.name.now seen certificate c.args.judged.now.number c.args.judged.now.line.now text.items)
+    (λ text. Says files asked c.args.judged.now.line.now text.items)
+    (λ text t. of_judgment c.args.judged.now.name.now c.args.judged.now.number seen certificate c.requires.no_fault c.requires.no_file c.requires.file c.requires.number
     c.in_ok-source.ensures (subst P c.deref.ensures c.in_ok-certificate.ensures) t)
     c.text_by_both.ensures

@@ -7,10 +7,10 @@ use Rattle.lucid_explain_report.proofs.sources.text_of_source.Goals as goal
 
 pub text_of_refused-requires : goal.text_of_refused-requires
 text_of_refused-requires c =
-    let P : Option Explanation → Type 0 = λ o. IfSome o (λ said. Explains c.args.name.now c.args.source.now said.line.items said.text.items) in
+    let P : Option Explanation → Type 0 = λ o. IfSome o (λ said. Explains c.args.reported.now.name.now c.args.reported.now.source.now said.line.items said.text.items) in
     subst P c.in-Some.is c.in_ok-said.ensures.refused
 
 pub text_of_accepted-requires : goal.text_of_accepted-requires
 text_of_accepted-requires c =
-    let P : Option Explanation → Type 0 = λ o. IfNone o (IsAccepted c.args.source.now) in
+    let P : Option Explanation → Type 0 = λ o. IfNone o (IsAccepted c.args.reported.now.source.now) in
     subst P c.in-None.is c.in_ok-said.ensures.accepted
