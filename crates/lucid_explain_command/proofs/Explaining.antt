@@ -22,10 +22,10 @@ begun_empty c bytes faults late after s e f l clauses =
     subst R l (subst Q f (subst P e clauses))
 
 -- a line that is another one is reported as that
-pub reported_as : (files : Files) (words : List Text) (line other : List ℕ) (before after : Told) → line ≡ other → Reports files words line before after
-    → Reports files words other before after
-reported_as files words line other before after e reports =
-    let P : List ℕ → Type 0 = λ z. Reports files words z before after in
+pub reported_as : (files : Files) (words : List Text) (ended : Status) (line other : List ℕ) (before after : Told) → line ≡ other
+    → Reports files words ended line before after → Reports files words ended other before after
+reported_as files words ended line other before after e reports =
+    let P : List ℕ → Type 0 = λ z. Reports files words ended z before after in
     subst P e reports
 
 -- a text that was made is reported, or that there was no memory for it

@@ -2,3 +2,4 @@ pub mod Common
 pub mod Explaining
 pub mod ReadAgain
 pub mod Making
+pub mod LinesSeen

@@ -1,5 +1,5 @@
 -- Of what more is said behind a call.
-use Rattle.std.specs.Prelude.{◌≡◌, ℕ, ◌==◌, nat_eq, ◌&&◌, not, Bool, if◌then◌else◌, List, [], codes, Option, Some, None}
+use Rattle.std.specs.Prelude.{◌≡◌, ℕ, ◌==◌, nat_eq, Bool, if◌then◌else◌, List, [], codes, Option, Some, None}
 use Rattle.std.specs.List.{list_any, starts_with}
 use Rattle.clap.specs.Words.{Text}
 use Rattle.lucid_words.specs.Asked.{PlainWords, words_asked}
@@ -30,13 +30,13 @@ behind_of s seen = first_or seen.first (done_behind s seen.lines)
 abbrev pub has_count : (words : List Text) → Bool
 has_count words = list_any (λ word. starts_with nat_eq word (codes "--count")) words
 
--- what is said of the number of lines: where lines of values are asked for, and no count
+-- what is said of the number of lines, where lines of values are asked for
 abbrev pub count_text : List ℕ
 count_text = codes "A run writes 20 lines where no count is given: with --count N it writes N, 1000000 at most.\n"
 
-abbrev pub count_said : (words : List Text) → PlainWords → List ℕ
-count_said words asked = if asks_lines asked && not (has_count words) then count_text else []
+abbrev pub count_said : PlainWords → List ℕ
+count_said asked = if asks_lines asked then count_text else []
 
 pub data SaysCount (words : List Text) (text : List ℕ) : Type 0 where
   refused_words : words_asked words ≡ None → text ≡ [] → SaysCount words text
-  read : (asked : PlainWords) → words_asked words ≡ Some asked → text ≡ count_said words asked → SaysCount words text
+  read : (asked : PlainWords) → words_asked words ≡ Some asked → text ≡ count_said asked → SaysCount words text

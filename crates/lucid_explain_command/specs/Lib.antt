@@ -1,5 +1,6 @@
 pub mod Prompted
 pub mod Noting
+pub mod Watching
 pub mod Behind
 pub mod Errors
 pub mod Explained

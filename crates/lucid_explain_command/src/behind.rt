@@ -57,8 +57,8 @@ pub(crate) fn behind_of(status: Status, noted: Noted) -> Behind
     }
 }
 
-// Whether one of the words is `--count`, or begins so.
-fn has_count(words: &[String]) -> bool
+/// Whether one of the words is `--count`, or begins so.
+pub(crate) fn has_count(words: &[String]) -> bool
     ensures { result ≡ has_count (map string_bytes words.now) }
 {
     words
@@ -67,22 +67,22 @@ fn has_count(words: &[String]) -> bool
 }
 
 // What is said of the number of lines.
-fn count_said(words: &[String], asked: &Words) -> &'static [u8]
-    ensures { result.now ≡ count_said (map string_bytes words.now) (plain_words asked.now) }
+fn count_said(asked: &Words) -> &'static [u8]
+    ensures { result.now ≡ count_said (plain_words asked.now) }
 {
-    if asks_lines(asked) && !has_count(words) {
+    if asks_lines(asked) {
         b"A run writes 20 lines where no count is given: with --count N it writes N, 1000000 at most.\n"
     } else {
         b""
     }
 }
 
-/// What is said of the number of lines of a call with these words.
+/// What is said of the number of lines of a call with these words, none of which gives it.
 pub(crate) fn text_of_count(alloc: Global, words: &[String]) -> Result<Vec<u8>, AllocError>
     ensures { IfOk result (λ text. SaysCount (map string_bytes words.now) text.items) }
 {
     match read_words(alloc, words) {
-        Ok(asked) => Vec::from_slice(alloc, count_said(words, &asked)),
+        Ok(asked) => Vec::from_slice(alloc, count_said(&asked)),
         Err(WordsRefusal::Usage) => Ok(Vec::new(alloc)),
         Err(WordsRefusal::NoMemory) => Err(AllocError),
     }

@@ -14,6 +14,15 @@ use lucid_top::lucid;
 use lucid_words::Words;
 use std::alloc::{AllocError, Global};
 
+/// A call of the program in the file of this name, and the time of which it is asked.
+#[derive(Clone, Copy)]
+pub(crate) struct Asked<'a> {
+    pub(crate) words: &'a [String],
+    pub(crate) asked: &'a Words,
+    pub(crate) name: &'a str,
+    pub(crate) time: u64,
+}
+
 // The words of the call that makes the certificate of a time.
 fn why_words(alloc: Global, time: u64, words: &[String]) -> Result<Vec<String>, AllocError>
     ensures { IfOk result (λ made. map string_bytes made.items ≡ why_words time (map string_bytes words.now)) }
@@ -53,19 +62,15 @@ fn call_over(
     found_by(alloc, status, &out)
 }
 
-/// The certificate of the value at a time of the program in the file of this name, by the files of these words as they are read again; none where
-/// none is made.
+/// The certificate of the value at the time, by the files of the call's words as they are read again; none where none is made.
 pub(crate) fn certificate_of<F: Outlook>(
     alloc: Global,
-    words: &[String],
-    asked: &Words,
-    name: &str,
-    time: u64,
+    call: &Asked<'_>,
     outlook: &F,
 ) -> Result<Option<Vec<u8>>, AllocError>
-    ensures { IfOk result (λ found. IsMade (F.files outlook.now) (map string_bytes words.now) (plain_words asked.now) name.now time (option_map (λ bytes. bytes.items) found)) }
+    ensures { IfOk result (λ found. IsMade (F.files outlook.now) (map string_bytes call.now.words.now) (plain_words call.now.asked.now) call.now.name.now call.now.time (option_map (λ bytes. bytes.items) found)) }
 {
-    let files = files_again(alloc, asked, name, outlook)?;
-    let words = why_words(alloc, time, words)?;
+    let files = files_again(alloc, call.asked, call.name, outlook)?;
+    let words = why_words(alloc, call.time, call.words)?;
     call_over(alloc, &words, files)
 }

@@ -1,5 +1,6 @@
 //! The command, with what explains its report.
 ghost use Rattle.std.specs.Prelude.{◌≡◌, drop, map};
+ghost use Rattle.std.specs.Option.{option_copied};
 ghost use Rattle.std.specs.String.{string_bytes};
 ghost use Rattle.lucid_words.specs.Asked.{words_asked};
 ghost use Rattle.lucid_top.specs.Call.{call};
@@ -8,15 +9,15 @@ ghost use Rattle.lucid_report.specs.Telling.{WritesLine};
 ghost use Rattle.lucid_explain_report.specs.Said.{IsExplanation};
 ghost use Rattle.lucid_explain_command.specs.Prompted.{IsPrompt};
 ghost use Rattle.lucid_explain_command.specs.Noting.{plain_noted};
-ghost use Rattle.lucid_explain_command.specs.Behind.{SaysCount};
+ghost use Rattle.lucid_explain_command.specs.Behind.{has_count, SaysCount};
 ghost use Rattle.lucid_explain_command.specs.Errors.{SaysError};
-ghost use Rattle.lucid_explain_command.specs.Explained.{unsaid_text, or_unsaid, Writes, WritesText, Prompts, Reports, ReportsBehind, IsExplained};
+ghost use Rattle.lucid_explain_command.specs.Explained.{unsaid_text, or_unsaid, Writes, WritesText, Prompts, said_alone, ReportsCause, Reports, ReportsCount, ReportsBehind, IsExplained};
 
-use crate::behind::{Behind, behind_of, text_of_count};
+use crate::behind::{Behind, behind_of, has_count, text_of_count};
 use crate::errors::text_of_error;
 use crate::prompt::text_of_prompt;
 use crate::watched::Watched;
-use lucid_explain_report::{Outlook, explain_report};
+use lucid_explain_report::{Outlook, explain_report, line_text};
 use lucid_ports::{MemorySink, Places, PortFault, Sink, write_whole};
 use lucid_report::Status;
 use lucid_top::lucid;
@@ -71,31 +72,61 @@ fn prompt_terminal<E: Sink, F: Outlook>(
     }
 }
 
+// What explains the line of a call that ended so, where no memory is wanted for it.
+fn said_alone(status: Status, line: &[u8]) -> Option<&'static [u8]>
+    ensures { option_copied result ≡ said_alone status line.now }
+{
+    match status {
+        Status::Done | Status::WriteFault | Status::TooLarge => Some(line_text(line)),
+        Status::NoMemory => Some(line_text(b"no memory\n")),
+        _ => None,
+    }
+}
+
+// Reports a text for which no memory is wanted.
+fn report_alone<E: Sink>(report: &mut E, said: &[u8])
+    ensures { Writes said.now (told E.written E.faults E.late report.old) (told E.written E.faults E.late report.new) }
+{
+    let _ = write_line(report, said);
+}
+
+// How a call ended, and the line that it reported.
+#[derive(Clone, Copy)]
+struct Ended<'a> {
+    status: Status,
+    line: &'a [u8],
+}
+
 // Reports what explains the line, or that there was no memory for it.
 fn report_cause<E: Sink, F: Outlook>(
     alloc: Global,
     words: &[String],
-    line: &[u8],
+    ended: &Ended<'_>,
     outlook: &F,
     report: &mut E,
 )
-    ensures { WritesText (IsExplanation (F.files outlook.now) (map string_bytes words.now) line.now) (told E.written E.faults E.late report.old) (told E.written E.faults E.late report.new) }
+    ensures { ReportsCause (said_alone ended.now.status ended.now.line.now) (F.files outlook.now) (map string_bytes words.now) ended.now.line.now
+        (told E.written E.faults E.late report.old) (told E.written E.faults E.late report.new) }
 {
-    report_text(report, explain_report(alloc, words, line, outlook));
+    match said_alone(ended.status, ended.line) {
+        Some(said) => report_alone(report, said),
+        None => report_text(report, explain_report(alloc, words, ended.line, outlook)),
+    }
 }
 
-// Reports the line of a call that ended so, and behind it what explains the line.
+// Reports the line of a call, and behind it what explains the line.
 fn report_call<E: Sink, F: Outlook>(
     alloc: Global,
     words: &[String],
-    line: &[u8],
+    ended: &Ended<'_>,
     outlook: &F,
     report: &mut E,
 )
-    ensures { Reports (F.files outlook.now) (map string_bytes words.now) line.now (told E.written E.faults E.late report.old) (told E.written E.faults E.late report.new) }
+    ensures { Reports (F.files outlook.now) (map string_bytes words.now) ended.now.status ended.now.line.now
+        (told E.written E.faults E.late report.old) (told E.written E.faults E.late report.new) }
 {
-    match write_line(report, line) {
-        Ok(()) => report_cause(alloc, words, line, outlook, report),
+    match write_line(report, ended.line) {
+        Ok(()) => report_cause(alloc, words, ended, outlook, report),
         Err(_) => {}
     }
 }
@@ -114,10 +145,19 @@ fn report_time<E: Sink, F: Outlook>(
 }
 
 // Reports how many lines a run writes, or that there was no memory for it.
-fn report_count<E: Sink>(alloc: Global, words: &[String], report: &mut E)
+fn report_lines<E: Sink>(alloc: Global, words: &[String], report: &mut E)
     ensures { WritesText (SaysCount (map string_bytes words.now)) (told E.written E.faults E.late report.old) (told E.written E.faults E.late report.new) }
 {
     report_text(report, text_of_count(alloc, words));
+}
+
+// Does so where no word gives it.
+fn report_count<E: Sink>(alloc: Global, words: &[String], report: &mut E)
+    ensures { ReportsCount (map string_bytes words.now) (has_count (map string_bytes words.now)) (told E.written E.faults E.late report.old) (told E.written E.faults E.late report.new) }
+{
+    if !has_count(words) {
+        report_lines(alloc, words, report);
+    }
 }
 
 // Reports that of which more is said.
@@ -158,7 +198,11 @@ pub fn lucid_explain<P: Places, K: Sink, E: Sink, F: Outlook>(
     let mut line = MemorySink::make(alloc, usize::MAX, Vec::new(alloc));
     prompt_terminal(alloc, words, outlook, report);
     let status = lucid(alloc, words, places, out, &mut line);
-    report_call(alloc, words, line.written(), outlook, report);
+    let ended = Ended {
+        status,
+        line: line.written(),
+    };
+    report_call(alloc, words, &ended, outlook, report);
     let behind = behind_of(status, out.noted());
     report_behind(alloc, words, behind, outlook, report);
     status

@@ -9,7 +9,7 @@ ghost use Rattle.lucid_explain_report.specs.Said.{names_given};
 ghost use Rattle.lucid_explain_command.specs.Errors.{value_file, behind_free, SaysUnmade, SaysMade, SaysOfTime, SaysBySeen, SaysError};
 
 use crate::again::inputs_again;
-use crate::certified::certificate_of;
+use crate::certified::{Asked, certificate_of};
 use crate::prompt::{asks_columns, asks_lines};
 use lucid_explain_errors::explain_error;
 use lucid_explain_report::{Again, Outlook, PAST_SOURCE, given_names};
@@ -28,15 +28,6 @@ fn value_file(asked: &Words) -> Option<&str>
         Source::File(name) => Some(name.as_str()),
         Source::Made(_) => None,
     }
-}
-
-// A call, and the time of which it is asked.
-#[derive(Clone, Copy)]
-struct Asked<'a> {
-    words: &'a [String],
-    asked: &'a Words,
-    name: &'a str,
-    time: u64,
 }
 
 // What is said of the input without a file.
@@ -100,7 +91,7 @@ fn text_of_source<F: Outlook>(
 ) -> Result<Vec<u8>, AllocError>
     ensures { IfOk result (λ text. SaysOfTime (F.files outlook.now) (F.terminal outlook.now) (map string_bytes call.now.words.now) (plain_words call.now.asked.now) call.now.name.now source.now call.now.time text.items) }
 {
-    match certificate_of(alloc, call.words, call.asked, call.name, call.time, outlook)? {
+    match certificate_of(alloc, call, outlook)? {
         Some(certificate) => text_made(alloc, call, source, &certificate, outlook),
         None => text_unmade(alloc, call, source, outlook),
     }

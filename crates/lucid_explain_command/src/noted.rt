@@ -1,6 +1,6 @@
 //! What is noted of lines as they are written.
-ghost use Rattle.std.specs.Prelude.{◌≡◌, fold};
-ghost use Rattle.lucid_explain_command.specs.Noting.{plain_noted, nothing_noted, matched_more, is_whole, first_of, note};
+ghost use Rattle.std.specs.Prelude.{◌≡◌, [], fold};
+ghost use Rattle.lucid_explain_command.specs.Watching.{plain_marks, marks_in, matched_more, is_whole, first_of, note};
 
 // The line that is looked for.
 const ERROR: [u8; 5] = *b"error";
@@ -52,7 +52,7 @@ fn first_of(first: Option<u64>, line: u64, matched: Option<usize>) -> Option<u64
 impl Noted {
     /// Nothing.
     pub(crate) fn nothing() -> Noted
-        ensures { plain_noted result ≡ nothing_noted }
+        ensures { plain_marks result ≡ marks_in [] }
     {
         Noted {
             lines: 0,
@@ -63,7 +63,7 @@ impl Noted {
 
     // One byte more.
     fn note(self, byte: u8) -> Noted
-        ensures { plain_noted result ≡ note (plain_noted self) byte }
+        ensures { plain_marks result ≡ note (plain_marks self) byte }
     {
         if byte == b'\n' {
             Noted {
@@ -82,7 +82,7 @@ impl Noted {
 
     /// More bytes.
     pub(crate) fn note_all(self, bytes: &[u8]) -> Noted
-        ensures { plain_noted result ≡ fold note (plain_noted self) bytes.now }
+        ensures { plain_marks result ≡ fold note (plain_marks self) bytes.now }
     {
         let mut noted = self;
         for byte in bytes {

@@ -1,7 +1,8 @@
 //! A sink that notes the first line that is `error`.
-ghost use Rattle.std.specs.Prelude.{◌≡◌};
+ghost use Rattle.std.specs.Prelude.{◌≡◌, [], IfSome};
 ghost use Rattle.std.proofs.Props.{props};
-ghost use Rattle.lucid_explain_command.specs.Noting.{plain_noted, nothing_noted, Notes};
+ghost use Rattle.lucid_explain_command.specs.Noting.{plain_noted, seen_in, Notes};
+ghost use Rattle.lucid_explain_command.specs.Watching.{plain_marks, AreMarks};
 
 use crate::noted::Noted;
 use lucid_ports::{PortFault, Sink};
@@ -11,15 +12,15 @@ use lucid_ports::{PortFault, Sink};
 pub struct Watched<K: Sink> {
     sink: K,
     noted: Noted,
-    ghost notes: { Notes (K.written sink) (plain_noted noted) } by { Prim.hlevel props },
+    ghost notes: { AreMarks (K.written sink) (plain_marks noted) } by { Prim.hlevel props },
 }
 
 impl<K: Sink> Watched<K> {
     /// The same sink, to which nothing is written yet.
     pub fn make(sink: K) -> Watched<K>
-        requires { Notes (K.written sink) nothing_noted }
+        requires { IfSome (K.written sink) (λ bytes. bytes ≡ []) }
         ensures sink { result.sink ≡ sink }
-        ensures noted { plain_noted result.noted ≡ nothing_noted }
+        ensures noted { plain_noted result.noted ≡ seen_in [] }
     {
         Watched {
             sink,

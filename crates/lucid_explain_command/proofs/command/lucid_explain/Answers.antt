@@ -27,6 +27,6 @@ returns g c =
           c.make-line.ensures.bytes c.make-line.ensures.faults c.make-line.ensures.late c.lucid-status.ensures;
       prompts = c.prompt_terminal.ensures;
       noted = subst N c.noted.ensures.value c.noted.ensures.notes;
-      reports = reported_as _ _ c.written.result.now _ _ _ c.written.ensures c.report_call.ensures;
+      reports = reported_as _ _ _ c.written.result.now _ _ _ c.written.ensures c.report_call.ensures;
       more = subst P (c.behind_of-behind.ensures ∙ ap (behind_of c.lucid-status.result) c.noted.ensures.value) c.report_behind.ensures;
     }

@@ -2,7 +2,7 @@ use Rattle.std.proofs.Common.{map}
 use Rattle.std.specs.String.{string_bytes}
 use Rattle.lucid_explain_command.specs.Behind.{SaysCount}
 use Rattle.lucid_explain_command.proofs.Explaining.{writes_made}
-use Rattle.lucid_explain_command.proofs.command.report_count.Goals as goal
+use Rattle.lucid_explain_command.proofs.command.report_lines.Goals as goal
 
 pub returns : goal.returns
 returns g c =
