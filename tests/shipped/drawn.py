@@ -15,6 +15,8 @@ SHOWN = {
     "factorial": ("fact(n) where fact(x) = if x eq 0 then 1 else x * fact(x - 1) fi; n = 0 fby n + 1; end", 3, {}),
     "nested": ("f asa i eq k where k is current n; i = 0 fby i + 1; f = 1 fby f * (i + 1); end where n = 0 fby n + 1; end", 3, {}),
     "search": ("n whenever n mod 3 eq 0 where n = 0 fby n + 1; end", 2, {}),
+    "tested name": ("x whenever p where x = 0 fby x + 1; p = x mod 3 eq 0; end", 2, {}),
+    "search in a test": ("n asa n eq (m asa m > 1) where n = 0 fby n + 1; m = n; end", 1, {}),
     "sieve": ("sieve(n) where n = 2 fby n + 1; sieve(i) = i fby sieve(i whenever i mod first i ne 0); end", 4, {}),
     "hamming": (
         "hamming where hamming = 1 fby merge(2 * hamming, merge(3 * hamming, 5 * hamming));"
@@ -37,21 +39,22 @@ SHOWN = {
 
 
 class Demand:
-    """What a certificate tells was asked for, each once, in the order of an outline, and which of these each needed."""
+    """What a certificate tells: what was asked for and the tests that ask for nothing, each once, and at which of these each looked first."""
 
     def __init__(self, flat, why):
         self.forms = [it.split()[2:] for it in flat.splitlines() if it.startswith("node ")]
         self.rows = [it.split(" ") for it in why.splitlines() if it.startswith("j ")]
-        self.cells, self.arrows = [], []
+        self.cells = []
         waiting = self.needs(len(self.rows) - 1)
         while waiting:
             cell = self.asked(waiting.pop(0))
             if cell not in self.cells:
                 self.cells.append(cell)
                 waiting = self.needs(cell[1]) + waiting if cell[0] == "value" else waiting
-        for cell in self.cells:
-            if cell[0] == "value":
-                self.arrows += [(cell, self.asked(it)) for it in self.needs(cell[1])]
+        tests = sorted({it for number in range(len(self.rows)) for it in self.tests(number)})
+        self.boxes = self.cells + [("value", it) for it in tests if self.asked(it) is None]
+        self.truths = {self.asked(it) or ("value", it): (self.rows[it][3], self.rows[it][-1] == "true") for it in tests}
+        self.arrows = [(box, it) for box in self.boxes if box[0] == "value" for it in self.looks(box[1])]
 
     def uses(self, number):
         row = self.rows[number]
@@ -64,6 +67,24 @@ class Demand:
         if form[0] == "input":
             return ("element", int(form[1]), int(row[3]))
         return ("value", self.uses(number)[0]) if form[0] in ("refer", "call") else None
+
+    def tests(self, number):
+        """The tests of a search: its judgments of the second part."""
+        form = self.forms[int(self.rows[number][1])]
+        return [it for it in self.uses(number) if self.rows[it][1] == form[2]] if form[0] in ("whenever", "asa", "upon") else []
+
+    def looks(self, number):
+        """The boxes at which the value of a judgment looked first, each once."""
+        waiting, found = [number], []
+        while waiting:
+            it = waiting.pop(0)
+            tests = self.tests(it)
+            if self.asked(it) is None:
+                waiting += [use for use in self.uses(it) if use not in tests]
+                found += [self.asked(test) or ("value", test) for test in tests]
+            else:
+                found.append(self.asked(it))
+        return list(dict.fromkeys(found))
 
     def needs(self, number):
         """The judgments that ask for what one was computed from, the first of each."""
@@ -114,7 +135,7 @@ def a_grid_holds_each_value_once(run):
         check(all(len(it) <= 100 for it in text.splitlines()[1:] if not it.startswith("[")), f"{name}: {text}")
         check(text.startswith(f"output at {time} is "), f"{name}: {text}")
         if "earlier times left out" not in text:
-            check(values_in(text) == len(demand.cells), f"{name}: {len(demand.cells)} values in {text}")
+            check(values_in(text) == len(demand.boxes), f"{name}: {len(demand.boxes)} values in {text}")
 
 
 @case
@@ -127,6 +148,14 @@ time      0    1    2    3    4
 f         0    1    1    .    3
 g         1    1    2    3    .
 """)
+    run.source("n asa n > 1 where n = 0 fby n + 1; end\n")
+    run.lucid("p", "--as", "grid", "--at", "0").must("""output at 0 is 2   = n > 1 is false at 0 to 1, true at 2, so n at 2
+
+[program]
+time         0      1      2
+n            0      1      2
+n > 1    false  false   true
+""")
 
 
 def boxes_in(root):
@@ -134,18 +163,29 @@ def boxes_in(root):
     return [it for it in root.iter(SVG + "rect") if it.get("class", "").split(" ")[0] in BOXES]
 
 
+def truths_in(root):
+    """The tests of a picture: of each its time, as it is told where the box is pointed at, and whether it is drawn as true."""
+    for group in root.iter(SVG + "g"):
+        box, told = group.find(SVG + "rect"), group.find(SVG + "title")
+        kind = box.get("class").split(" ")[0]
+        if told is not None and kind in ("true", "false"):
+            yield re.match(r".*? at (\d+)(?: space \d+)? is ", told.text)[1], kind == "true"
+
+
 @case
-def a_picture_has_a_box_for_each_value_and_an_arrow_for_each_need(run):
+def a_picture_has_a_box_for_each_value_and_an_arrow_for_each_look(run):
     for name, (source, time, inputs) in SHOWN.items():
         words, demand = demanded(run, source, time, inputs)
         picture = run.showing().lucid("--as", "svg", "--at", str(time), *words).must().out.decode()
         root = tree.fromstring(picture)
         boxes = boxes_in(root)
         arrows = [it for it in root.iter(SVG + "path") if it.get("class") == "arrow"]
-        check(len(boxes) == len(demand.cells), f"{name}: {len(boxes)} boxes of {len(demand.cells)} values")
-        check(len(arrows) == len(demand.arrows), f"{name}: {len(arrows)} arrows of {len(demand.arrows)} needs")
+        check(len(boxes) == len(demand.boxes), f"{name}: {len(boxes)} boxes of {len(demand.boxes)} values")
+        check(len(arrows) == len(demand.arrows), f"{name}: {len(arrows)} arrows of {len(demand.arrows)} looks")
         marked = [it for it in boxes if "output" in it.get("class").split(" ")]
-        check(len(marked) == len(demand.needs(len(demand.rows) - 1)), f"{name}: {len(marked)} boxes of the output")
+        check(len(marked) == len(demand.looks(len(demand.rows) - 1)), f"{name}: {len(marked)} boxes of the output")
+        truths = sorted(truths_in(root))
+        check(truths == sorted(demand.truths.values()), f"{name}: the tests are {truths}")
         check(root.find(SVG + "title") is not None and root.find(SVG + "desc") is not None, f"{name}: no title")
         check(not re.search("<script|href|@import|url\\((?!#)", picture), f"{name}: it doesn't stand alone")
 
@@ -169,7 +209,7 @@ def each_picture_is_drawn_by_another_program(run):
 def values_that_are_left_out_are_counted(run):
     source, time, inputs = SHOWN["sieve"]
     words, demand = demanded(run, source, time, inputs)
-    left = len(demand.cells) - 5
+    left = len(demand.boxes) - 5
     for form in ("grid", "svg"):
         text = run.showing().lucid("--as", form, "--cells", "5", "--at", str(time), *words).must().out.decode()
         check(f".. (values left out: {left})" in text, f"{form}: {shown(text)}")

@@ -1,5 +1,7 @@
 pub mod Common
 pub mod Loops
+pub mod Looking
+pub mod Boxes
 pub mod Frames
 pub mod Together
 pub mod Order
@@ -8,4 +10,5 @@ pub mod Telling
 pub mod Grouped
 pub mod Shown
 pub mod Demanded
-pub mod Used
+pub mod LookedAt
+pub mod Looks

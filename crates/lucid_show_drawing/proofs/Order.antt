@@ -9,7 +9,7 @@ use Rattle.std.proofs.lemmas.List.Sorted.{ranks_by, sorted_far}
 use Rattle.std.proofs.lemmas.Map.Lookups.{exact_unsigned}
 use Rattle.lucid_show_drawing.specs.declared.asked.Asked.{Asked}
 use Rattle.lucid_show_drawing.specs.declared.spot.Row.{Row}
-use Rattle.lucid_show_drawing.specs.declared.spot.Row.TheVariants.{Input, Name}
+use Rattle.lucid_show_drawing.specs.declared.spot.Row.TheVariants.{Input, Name, Test}
 use Rattle.lucid_show_drawing.specs.declared.spot.Spot.{Spot}
 use Rattle.lucid_show_drawing.specs.contracts.spot.RowOrd.TheImpl.{cmp-value as row_order}
 use Rattle.lucid_show_drawing.specs.contracts.spot.RowOrd.TheImpl.Laws.{total-law as row_total}
@@ -52,9 +52,15 @@ neither Greater Greater e h k = absurd (cc)
 exact_row : (r s : Row) → row_order.it r s ≡ Equal → r ≡ s
 exact_row (Input k) (Input l) h = ap Input (exact_unsigned k l h)
 exact_row (Input k) (Name m t) h = absurd (cc)
+exact_row (Input k) (Test m t) h = absurd (cc)
 exact_row (Name n s) (Input l) h = absurd (cc)
 exact_row (Name n s) (Name m t) h =
     let both = then_equal (nat_cmp n m) (nat_cmp s t) h in ap (λ q. Name q s) (exact_unsigned n m both.0) ∙ ap (λ q. Name m q) (exact_unsigned s t both.1)
+exact_row (Name n s) (Test m t) h = absurd (cc)
+exact_row (Test n s) (Input l) h = absurd (cc)
+exact_row (Test n s) (Name m t) h = absurd (cc)
+exact_row (Test n s) (Test m t) h =
+    let both = then_equal (nat_cmp n m) (nat_cmp s t) h in ap (λ q. Test q s) (exact_unsigned n m both.0) ∙ ap (λ q. Test m q) (exact_unsigned s t both.1)
 
 later_context : (p q : Spot) → is_lt (spot_order.it p q) ≡ false → q.context ≤ p.context
 later_context p q h =

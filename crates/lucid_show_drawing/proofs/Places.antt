@@ -1,6 +1,5 @@
 -- Where cells are drawn, and arrows to them.
 use Rattle.lucid_show_drawing.proofs.Common.{◌≡◌, ℕ, ◌+◌, ◌<◌, Bool, true, false, ◌||◌, List, [], ◌∷◌, ◌++◌, length, get_or, take, drop, Option, Some, None, refl, sym, ap, subst, ◌∙◌, arith, MatchOption, slice_get, if◌then◌else◌, take_more, take_all, drop_more, append_assoc, append-nil, ◌≤◌}
-use Rattle.std.specs.List.{list_any}
 use Rattle.std.specs.Option.{option_map, option_to_list}
 use Rattle.std.proofs.lemmas.List.{at_drop_more, drop_all, get_or-map, length-map}
 use Rattle.std.proofs.lemmas.List.Folds.{list_any-append}
@@ -9,19 +8,16 @@ use Rattle.std.proofs.lemmas.Bool.{and_parts, eq-eqb, eqb-true}
 use Rattle.std.proofs.lemmas.Bool.Decides.{eqb_tells}
 use Rattle.std.specs.Prelude.{◌==◌, ◌&&◌}
 use Rattle.lucid_show_drawing.proofs.Common.{inl, inr}
-use Rattle.indexmap.specs.IndexSet.{insert_key}
 use Rattle.lucid_cert_rules.specs.declared.cell.Cell.{Cell}
 use Rattle.lucid_cert_rules.specs.declared.cell.Cell.TheVariants.{Named, Element}
 use Rattle.lucid_cert_rules.specs.contracts.cell.CellPartialEq.TheImpl.{eq-value}
-use Rattle.lucid_cert_rules.specs.Cells.{asked_at, is_among, same_cell}
-use Rattle.lucid_cert_rules.proofs.SameCells.{is_among-list_any}
+use Rattle.lucid_cert_rules.specs.Cells.{is_among, same_cell}
 use Rattle.lucid_show_grid.specs.declared.grid.Arrow.{Arrow}
 use Rattle.lucid_show_outline.specs.Views.{View}
 use Rattle.lucid_show_drawing.specs.Arrows.{AreArrows, GoTo, cells_of, left_out, no_more, nowhere, one, there}
-use Rattle.lucid_cert_rules.specs.Outlines.{CellNeeds}
 use Rattle.lucid_show_drawing.specs.declared.asked.Asked.{Asked}
+use Rattle.lucid_show_drawing.specs.Looked.{looked_at}
 use Rattle.lucid_show_drawing.specs.Orders.{ArePlaces, PlacesSoFar, arrow_by, arrows_by}
-use Rattle.lucid_show_drawing.specs.Shown.{cells_at}
 
 -- the derived test of cells, both ways
 pub one_cell : (c d : Cell) → eq-value.it c d ≡ true → c ≡ d
@@ -109,44 +105,21 @@ pub arrows_by_more : (place : Cell → Option ℕ) (from : ℕ) (cs : List Cell)
     → arrows_by place from (drop i cs) ≡ option_to_list (option_map (arrow_by from) (place (get_or cs i d))) ++ arrows_by place from (drop (i + 1) cs)
 arrows_by_more place from cs i d h = at_drop_more (λ ds. arrows_by place from ds) cs i d h
 
-pub cells_more : (v : View) (ns : List ℕ) (i : ℕ) (d : ℕ) → i < length ns
-    → cells_at v (drop i ns) ≡ option_to_list (asked_at v.table v.judgments (get_or ns i d)) ++ cells_at v (drop (i + 1) ns)
-cells_more v ns i d h = at_drop_more (λ xs. cells_at v xs) ns i d h
-
--- a set of cells with one more
-with_key : (b : Bool) (ks : List Cell) (k c : Cell) → is_among ks k ≡ b → is_among (if b then ks else ks ++ k ∷ []) c ≡ (is_among ks c || same_cell c k)
-with_key false ks k c h = is_among-push ks c k
-with_key true ks k c h = there_by (eq-value.it k c) refl
-  where
-    there_by : (s : Bool) → eq-value.it k c ≡ s → is_among ks c ≡ (is_among ks c || same_cell c k)
-    there_by true e =
-        let in' : is_among ks c ≡ true = ap (λ (q : Cell). is_among ks q) (sym (one_cell k c e)) ∙ h in in' ∙ ap (λ b. b || same_cell c k) (sym in')
-    there_by false e = sym (or_false (is_among ks c)) ∙ ap (λ b. is_among ks c || b) (sym (no_cell k c e))
-
-pub is_among-insert_key : (ks : List Cell) (k c : Cell) → is_among (insert_key eq-value.it ks k) c ≡ (is_among ks c || same_cell c k)
-is_among-insert_key ks k c = with_key (list_any (eq-value.it k) ks) ks k c (sym (is_among-list_any ks k))
-
-pub outputs_more : (cells ks ls : List Cell) (i : ℕ) (d : Cell) → i < length cells → ls ≡ insert_key eq-value.it ks (get_or cells i d)
-    → ((c : Cell) → is_among ks c ≡ is_among (take i cells) c) → (c : Cell) → is_among ls c ≡ is_among (take (i + 1) cells) c
-outputs_more cells ks ls i d h is so_far c =
-    ap (λ (cs : List Cell). is_among cs c) is ∙ is_among-insert_key ks (get_or cells i d) c ∙ ap (λ b. b || same_cell c (get_or cells i d)) (so_far c)
-    ∙ sym (is_among-push (take i cells) c (get_or cells i d)) ∙ ap (λ (cs : List Cell). is_among cs c) (sym (take_more cells i d h))
-
 -- arrows from one cell more
-pub arrows_one : (v : View) (shown : List Asked) (i : ℕ) (d : Asked) → i < length shown → (found : List ℕ)
-    → CellNeeds v.table v.judgments (get_or shown i d).cell found → (these old new : List Arrow) → GoTo (cells_of shown) i (cells_at v found) these
+pub arrows_one : (v : View) (shown : List Asked) (i : ℕ) (d : Asked) → i < length shown → (these old new : List Arrow)
+    → GoTo (cells_of shown) i (looked_at v (get_or shown i d).cell) these
     → new ≡ old ++ these
     → ((more : List Arrow) → AreArrows v (cells_of shown) i (drop i (cells_of shown)) more → AreArrows v (cells_of shown) 0 (cells_of shown) (old ++ more))
     → (more : List Arrow) → AreArrows v (cells_of shown) (i + 1) (drop (i + 1) (cells_of shown)) more
     → AreArrows v (cells_of shown) 0 (cells_of shown) (new ++ more)
-arrows_one v shown i d h found needs these old new go added so_far more later =
+arrows_one v shown i d h these old new go added so_far more later =
     let cells : List Cell = cells_of shown in
     let long : i < length (cells_of shown) = omega (arith, length-map shown (λ (a : Asked). a.cell)) in
     let front : drop i (cells_of shown) ≡ (get_or shown i d).cell ∷ drop (i + 1) (cells_of shown) =
     drop_more (cells_of shown) i d.cell long
     ∙ ap (λ (c : Cell). c ∷ drop (i + 1) (cells_of shown)) (get_or-map (λ (a : Asked). a.cell) shown i d d.cell h) in
     subst (λ (z : List Arrow). AreArrows v (cells_of shown) 0 (cells_of shown) z) (sym (ap (λ (z : List Arrow). z ++ more) added ∙ append_assoc old these more))
-    (so_far (these ++ more) (subst (λ (z : List Cell). AreArrows v (cells_of shown) i z (these ++ more)) (sym front) (one needs go later)))
+    (so_far (these ++ more) (subst (λ (z : List Cell). AreArrows v (cells_of shown) i z (these ++ more)) (sym front) (one go later)))
 
 pub arrows_all : (v : View) (shown : List Asked) (i : ℕ) → length shown ≤ i → (arrows : List Arrow)
     → ((more : List Arrow) → AreArrows v (cells_of shown) i (drop i (cells_of shown)) more → AreArrows v (cells_of shown) 0 (cells_of shown) (arrows ++ more))

@@ -1,21 +1,16 @@
 -- The parts of a grid.
-use Rattle.lucid_show_drawing.proofs.Common.{◌≡◌, ℕ, List, subst}
-use Rattle.lucid_cert_rules.specs.Cells.{is_among}
-use Rattle.lucid_cert_rules.specs.declared.cell.Cell.{Cell}
+use Rattle.lucid_show_drawing.proofs.Common.{◌≡◌, List, subst}
 use Rattle.lucid_show_grid.specs.Grids.{PlainPanel}
 use Rattle.lucid_show_grid.specs.declared.grid.Arrow.{Arrow}
 use Rattle.lucid_show_outline.specs.Views.{View}
 use Rattle.lucid_show_drawing.specs.declared.asked.Asked.{Asked}
 use Rattle.lucid_show_drawing.specs.Arrows.{AreArrows, cells_of}
-use Rattle.lucid_show_drawing.specs.Panels.{ArePanels}
-use Rattle.lucid_show_drawing.specs.Shown.{cells_at}
+use Rattle.lucid_show_drawing.specs.Panels.{ArePanels, PlainRoles}
 
-pub grid_panels : (v : View) (os : List Cell) (found : List ℕ) (xs ys : List Asked) (ps : List PlainPanel)
-    → ((c : Cell) → is_among os c ≡ is_among (cells_at v found) c) → xs ≡ ys → ArePanels v (is_among os) xs ps
-    → ArePanels v (is_among (cells_at v found)) ys ps
-grid_panels v os found xs ys ps same e h =
-    let tests : is_among os ≡ is_among (cells_at v found) = λ j q. same q j in
-    subst (λ z. ArePanels v z ys ps) tests (subst (λ (z : List Asked). ArePanels v (is_among os) z ps) e h)
+pub grid_panels : (v : View) (roles same_roles : PlainRoles) (xs ys : List Asked) (ps : List PlainPanel) → roles ≡ same_roles → xs ≡ ys
+    → ArePanels v roles xs ps → ArePanels v same_roles ys ps
+grid_panels v roles same_roles xs ys ps same e h =
+    subst (λ (r : PlainRoles). ArePanels v r ys ps) same (subst (λ (z : List Asked). ArePanels v roles z ps) e h)
 
 pub grid_arrows : (v : View) (xs ys : List Asked) (more : List Arrow) → xs ≡ ys → AreArrows v (cells_of xs) 0 (cells_of xs) more
     → AreArrows v (cells_of ys) 0 (cells_of ys) more

@@ -1,78 +1,85 @@
--- What an outline tells asks for a cell, which has a spot.
-use Rattle.lucid_show_drawing.proofs.Common.{◌≡◌, ℕ, ◌+◌, ◌<◌, List, [], ◌∷◌, ◌++◌, length, get_or, take, drop, Option, Some, None, refl, Bool, All, IsSome, slice_get, if◌then◌else◌, true, false, sym, ap, subst, ◌∙◌, append_assoc}
-use Rattle.std.specs.Option.{option_and_then}
+-- What an outline tells, and each test, is of a judgment that is there, which has a spot.
+use Rattle.lucid_show_drawing.proofs.Common.{◌≡◌, ℕ, zero, suc, ◌+◌, ◌<◌, ◌≤◌, List, [], ◌∷◌, ◌++◌, length, get_or, take, drop, Option, Some, None, refl, Bool, All, slice_get, if◌then◌else◌, true, false, sym, ap, subst, ◌∙◌, append_assoc, arith, inl, inr}
+use Rattle.std.specs.Prelude.{is_some, nat_lt}
+use Rattle.std.specs.Option.{option_and_then, option_map}
+use Rattle.std.proofs.lemmas.Bool.{and_parts, ltb-true}
 use Rattle.std.proofs.lemmas.List.{at_drop_more, length-map, map-append, take-map}
 use Rattle.std.proofs.lemmas.List.Sorted.{All-permutation, IsPermutation-map}
 use Rattle.std.specs.List.Sorted.{IsPermutation}
-use Rattle.std.proofs.lemmas.List.Elements.{All-from_recursion, All-nil, All-cons, All-push, All-take, recursion_from_All}
+use Rattle.std.proofs.lemmas.List.Elements.{All-append, All-from_recursion, All-nil, All-cons, All-push, All-take, recursion_from_All}
 use Rattle.std.specs.List.{AllByRecursion as ByRecursion}
 use Rattle.std.proofs.lemmas.List.Recursion.{is_count_by}
+use Rattle.std.proofs.lemmas.Option.{slice_get_within}
 use Rattle.std.proofs.Common.{cond, count_by, not}
-use Rattle.lucid_show_drawing.proofs.Common.{arith, inl, inr, ◌≤◌}
 use Rattle.lucid_tree.specs.Members.{In}
 use Rattle.lucid_equations.specs.declared.table.Table.{Table}
-use Rattle.lucid_equations.specs.declared.rows.Node.{Node}
-use Rattle.lucid_equations.specs.declared.rows.Node.TheVariants.{Input, Refer, Call}
-use Rattle.lucid_equations.specs.Rows.{row_at}
 use Rattle.lucid_cert_rules.specs.Certificates.{PlainJudgment}
-use Rattle.lucid_cert_rules.specs.Cells.{asked_at, asked_by, cell_of}
-use Rattle.lucid_cert_rules.specs.Outlines.{CellNeeds, Line, Outlines, Tells, above, entry, no_cell, no_more, of_element, of_name, whole}
-use Rattle.lucid_cert_rules.specs.Needs.{Needs}
-use Rattle.lucid_cert_rules.specs.declared.cell.Cell.TheVariants.{Named, Element}
+use Rattle.lucid_cert_rules.specs.Cells.{asked_at, cell_of}
+use Rattle.lucid_cert_rules.specs.Outlines.{Line, Outlines, Tells, above, entry, no_cell, no_more, whole}
 use Rattle.lucid_show_drawing.specs.declared.asked.Asked.{Asked}
 use Rattle.lucid_cert_rules.specs.declared.cell.Cell.{Cell}
 use Rattle.lucid_cert_rules.specs.declared.telling.Entry.{Entry}
 use Rattle.lucid_show_outline.specs.Chosen.{chosen, is_told}
 use Rattle.lucid_show_outline.specs.Views.{View}
-use Rattle.lucid_show_drawing.specs.Orders.{AllAsk, AreAsked}
-use Rattle.lucid_show_drawing.specs.Shown.{IsAsked, numbers, told_whole}
-use Rattle.lucid_show_drawing.specs.Spots.{spot_at, spot_by, spot_for}
+use Rattle.lucid_show_drawing.specs.Orders.{AllThere, AreAsked}
+use Rattle.lucid_show_drawing.specs.Shown.{IsAsked, asks_nothing, numbers, test_entries, test_entry, told_whole}
+use Rattle.lucid_show_drawing.specs.Spots.{spot_at, spot_for}
 
-some_is : (o : Option Cell) (c : Cell) → o ≡ Some c → IsSome o
-some_is None c h = absurd (cc)
-some_is (Some d) c h = refl
+-- what asks for something is there
+some_below : (T : Table) (js : List PlainJudgment) (i : ℕ) (c : Cell) (o : Option PlainJudgment) → slice_get js i ≡ o
+    → option_and_then (cell_of T) o ≡ Some c → i < length js
+some_below T js i c None is h = absurd (cc)
+some_below T js i c (Some j) is h = slice_get_within js i j is
 
--- each entry is of a judgment that asks
-pub told_ask : {T : Table} {js : List PlainJudgment} {lines : List Line} {told : List Cell} {es : List Entry} → Tells T js lines told es → AllAsk T js es
-told_ask {T} {js} no_more = All-nil (λ (e : Entry). IsSome (asked_at T js e.asked))
-told_ask (no_cell none rest) = told_ask rest
-told_ask {T} {js} (above {l = l} {es = es} c asks before rest) =
-    All-cons (λ (e : Entry). IsSome (asked_at T js e.asked)) (entry l true) es (some_is (asked_at T js l.asked) c asks) (told_ask rest)
-told_ask {T} {js} (whole {l = l} {es = es} c asks new found needs rest) =
-    All-cons (λ (e : Entry). IsSome (asked_at T js e.asked)) (entry l false) es (some_is (asked_at T js l.asked) c asks) (told_ask rest)
+asks_below : (T : Table) (js : List PlainJudgment) (i : ℕ) (c : Cell) → asked_at T js i ≡ Some c → i < length js
+asks_below T js i c asks = some_below T js i c (slice_get js i) refl asks
 
-by_node : (v : View) (j : PlainJudgment) (n : Node) (c : Cell) → asked_by j n ≡ Some c → spot_by v j n ≡ None → ⊥
-unfolding spot_by
-by_node v j (Input k) c asks none = cc
-by_node v j (Refer n l) c asks none = cc
-by_node v j (Call n p l) c asks none = cc
-by_node v j _ c asks none = cc
+-- each entry is of a judgment that is there
+pub told_there : {T : Table} {js : List PlainJudgment} {lines : List Line} {told : List Cell} {es : List Entry} → Tells T js lines told es
+    → All (λ (e : Entry). e.asked < length js) es
+told_there {T} {js} no_more = All-nil (λ (e : Entry). e.asked < length js)
+told_there (no_cell none rest) = told_there rest
+told_there {T} {js} (above {l = l} {es = es} c asks before rest) =
+    All-cons (λ (e : Entry). e.asked < length js) (entry l true) es (asks_below T js l.asked c asks) (told_there rest)
+told_there {T} {js} (whole {l = l} {es = es} c asks new found needs rest) =
+    All-cons (λ (e : Entry). e.asked < length js) (entry l false) es (asks_below T js l.asked c asks) (told_there rest)
 
-by_row : (v : View) (j : PlainJudgment) (o : Option Node) (c : Cell) → option_and_then (asked_by j) o ≡ Some c → option_and_then (spot_by v j) o ≡ None → ⊥
-by_row v j None c asks none = cc
-by_row v j (Some n) c asks none = by_node v j n c asks none
+-- so is each of a test
+pub nothing_below : (v : View) (i : ℕ) → asks_nothing v i ≡ true → i < length v.judgments
+unfolding asks_nothing
+nothing_below v i h = ltb-true i (length v.judgments) (and_parts (nat_lt i (length v.judgments)) (not (is_some (asked_at v.table v.judgments i))) h).0
 
-by_judgment : (v : View) (o : Option PlainJudgment) (c : Cell) → option_and_then (cell_of v.table) o ≡ Some c → option_and_then (spot_for v) o ≡ None → ⊥
-unfolding spot_for
-by_judgment v None c asks none = cc
-by_judgment v (Some j) c asks none = by_row v j (row_at v.table j.node) c asks none
+test_there : (v : View) (b : Bool) (i : ℕ) (rest : List Entry) → asks_nothing v i ≡ b → All (λ (e : Entry). e.asked < length v.judgments) rest
+    → All (λ (e : Entry). e.asked < length v.judgments) (if b then test_entry i ∷ rest else rest)
+test_there v true i rest is later = All-cons (λ (e : Entry). e.asked < length v.judgments) (test_entry i) rest (nothing_below v i is) later
+test_there v false i rest is later = later
 
--- what asks for a cell has a spot
-pub no_spot : (v : View) (i : ℕ) (c : Cell) → asked_at v.table v.judgments i ≡ Some c → spot_at v i ≡ None → ⊥
+pub tests_there : (v : View) (is : List ℕ) → All (λ (e : Entry). e.asked < length v.judgments) (test_entries v is)
+tests_there v [] = All-nil (λ (e : Entry). e.asked < length v.judgments)
+tests_there v (i ∷ is) = test_there v (asks_nothing v i) i (test_entries v is) refl (tests_there v is)
+
+-- a judgment that is there has a spot
+not_there : (js : List PlainJudgment) (i : ℕ) → i < length js → slice_get js i ≡ None → ⊥
+not_there [] i h none = absurd (omega arith)
+not_there (j ∷ js) zero h none = absurd (cc)
+not_there (j ∷ js) (suc i) h none = not_there js i (omega arith) none
+
+none_of : (v : View) (o : Option PlainJudgment) → option_map (spot_for v) o ≡ None → o ≡ None
+none_of v None h = refl
+none_of v (Some j) h = absurd (cc)
+
+pub no_spot : (v : View) (i : ℕ) → i < length v.judgments → spot_at v i ≡ None → ⊥
 unfolding spot_at
-no_spot v i c asks none = by_judgment v (slice_get v.judgments i) c asks none
+no_spot v i there none = not_there v.judgments i there (none_of v (slice_get v.judgments i) none)
+
+pub entries_more : (v : View) (is : List ℕ) (k : ℕ) (d : ℕ) → k < length is
+    → test_entries v (drop k is)
+    ≡ (if asks_nothing v (get_or is k d) then test_entry (get_or is k d) ∷ test_entries v (drop (k + 1) is) else test_entries v (drop (k + 1) is))
+entries_more v is k d h = at_drop_more (λ xs. test_entries v xs) is k d h
 
 pub told_more : (es : List Entry) (i : ℕ) (d : Entry) → i < length es
     → told_whole (drop i es) ≡ (if (get_or es i d).above then told_whole (drop (i + 1) es) else (get_or es i d).asked ∷ told_whole (drop (i + 1) es))
 told_more es i d h = at_drop_more (λ xs. told_whole xs) es i d h
-
--- what a cell was computed from, by what it is
-pub no_needs : (T : Table) (js : List PlainJudgment) (c : Cell) (k t : ℕ) (found : List ℕ) → c ≡ Element k t → found ≡ [] → CellNeeds T js c found
-no_needs T js c k t found is none =
-    subst (λ (d : Cell). CellNeeds T js d found) (sym is) (subst (λ (l : List ℕ). CellNeeds T js (Element k t) l) (sym none) of_element)
-
-pub its_needs : (T : Table) (js : List PlainJudgment) (c : Cell) (i : ℕ) (found : List ℕ) → c ≡ Named i → Needs T js i found → CellNeeds T js c found
-its_needs T js c i found is needs = subst (λ (d : Cell). CellNeeds T js d found) (sym is) (of_name needs)
 
 -- one entry more: told whole, or above
 pub told_one : (es : List Entry) (i : ℕ) (d : Entry) → i < length es → (get_or es i d).above ≡ false → (old new : List Asked) (a : Asked)
@@ -134,9 +141,13 @@ outline_at T U js ks i k es ds t j n d out =
     (subst (λ (z : ℕ). Outlines U ks z es) n
     (subst (λ (z : List PlainJudgment). Outlines U z i es) j (subst (λ (z : Table). Outlines z js i es) t out)))
 
-pub outline_asks : (v : View) (i : ℕ) (es told : List Entry) → told ≡ chosen v es → Outlines v.table v.judgments i es → AllAsk v.table v.judgments told
-outline_asks v i es told is out =
-    subst (λ (z : List Entry). AllAsk v.table v.judgments z) (sym is) (All-chosen v (λ (e : Entry). IsSome (asked_at v.table v.judgments e.asked)) es (told_ask out.2))
+-- what is told of an outline and of tests
+pub all_there : (v : View) (i : ℕ) (es told : List Entry) (tests : List ℕ) → told ≡ chosen v (es ++ test_entries v tests)
+    → Outlines v.table v.judgments i es → AllThere v told
+all_there v i es told tests is out =
+    subst (λ (z : List Entry). AllThere v z) (sym is)
+    (All-chosen v (λ (e : Entry). e.asked < length v.judgments) (es ++ test_entries v tests)
+    (All-append (λ (e : Entry). e.asked < length v.judgments) es (test_entries v tests) (told_there out.2) (tests_there v tests)))
 
 -- what is shown of all
 pub shown_once : (v : View) (es : List Entry) (all shown : List Asked) (most : ℕ) → AreAsked v (told_whole es) all → IsPermutation (take most all) shown

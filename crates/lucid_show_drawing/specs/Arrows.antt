@@ -1,12 +1,11 @@
 -- The arrows of a grid.
 use Rattle.std.specs.Prelude.{◌≡◌, ℕ, ◌+◌, false, List, [], ◌∷◌, ◌++◌, map, Some, slice_get}
 use Rattle.lucid_cert_rules.specs.Cells.{is_among}
-use Rattle.lucid_cert_rules.specs.Outlines.{CellNeeds}
 use Rattle.lucid_cert_rules.specs.declared.cell.Cell.{Cell}
 use Rattle.lucid_show_grid.specs.declared.grid.Arrow.{Arrow}
 use Rattle.lucid_show_outline.specs.Views.{View}
 use Rattle.lucid_show_drawing.specs.declared.asked.Asked.{Asked}
-use Rattle.lucid_show_drawing.specs.Shown.{cells_at}
+use Rattle.lucid_show_drawing.specs.Looked.{looked_at}
 
 abbrev pub cells_of : List Asked → List Cell
 cells_of xs = map (λ (a : Asked). a.cell) xs
@@ -18,8 +17,8 @@ pub data GoTo (drawn : List Cell) (from : ℕ) : List Cell → List Arrow → Ty
       → GoTo drawn from (c ∷ cs) (record { from = from; to = to } ∷ more)
   left_out : {c : Cell} {cs : List Cell} {more : List Arrow} → is_among drawn c ≡ false → GoTo drawn from cs more → GoTo drawn from (c ∷ cs) more
 
--- From each cell, which have numbers from one on, arrows go to what it was computed from, up to the next references.
+-- From each cell, which have numbers from one on, arrows go to those at which it looked.
 pub data AreArrows (v : View) (drawn : List Cell) : (from : ℕ) → List Cell → List Arrow → Type 0 where
   no_more : {i : ℕ} → AreArrows v drawn i [] []
-  one : {i : ℕ} {c : Cell} {cs : List Cell} {found : List ℕ} {these more : List Arrow} → CellNeeds v.table v.judgments c found
-      → GoTo drawn i (cells_at v found) these → AreArrows v drawn (i + 1) cs more → AreArrows v drawn i (c ∷ cs) (these ++ more)
+  one : {i : ℕ} {c : Cell} {cs : List Cell} {these more : List Arrow} → GoTo drawn i (looked_at v c) these → AreArrows v drawn (i + 1) cs more
+      → AreArrows v drawn i (c ∷ cs) (these ++ more)

@@ -1,4 +1,4 @@
--- What stands in a grid: names, values and contexts.
+-- What stands in a grid: names, tests, values and contexts.
 use Rattle.std.specs.Prelude.{ℕ, ◌-◌, ◌==◌, List, [], ◌∷◌, ◌++◌, codes, decimal, Option, Some, None, slice_get, if◌then◌else◌}
 use Rattle.std.specs.Option.{option_and_then}
 use Rattle.lucid_tree.specs.Tree.{PlainTree, form, name, call, block}
@@ -13,8 +13,9 @@ use Rattle.lucid_cert_rules.specs.declared.rows.ContextRow.{ContextRow}
 use Rattle.lucid_cert_rules.specs.declared.rows.ContextRow.TheVariants as context
 use Rattle.lucid_show_drawing.specs.declared.asked.Asked.{Asked}
 use Rattle.lucid_show_drawing.specs.declared.spot.Row.{Row}
-use Rattle.lucid_show_drawing.specs.declared.spot.Row.TheVariants.{Input, Name}
+use Rattle.lucid_show_drawing.specs.declared.spot.Row.TheVariants.{Input, Name, Test}
 use Rattle.lucid_show_outline.specs.Asked.{asked_text, context_text, space_text}
+use Rattle.lucid_show_outline.specs.Equations.{tested_text}
 use Rattle.lucid_show_outline.specs.Lines.{cell_text}
 use Rattle.lucid_show_outline.specs.Values.{value_shown}
 use Rattle.lucid_show_outline.specs.Views.{View}
@@ -38,12 +39,19 @@ each_text _ = []
 unfoldable pub row_text : Table → Row → List ℕ
 row_text T (Input k) = []
 row_text T (Name n s) = space_text s ++ each_text (name_at T n)
+row_text T (Test n s) = space_text s
+
+-- the piece of a line: a name; of a test its whole text
+unfoldable pub row_name : Row → Option PlainTree → List ℕ
+row_name (Input k) e = line_name e
+row_name (Name n s) e = line_name e
+row_name (Test n s) e = tested_text e
 
 unfoldable pub label_for : View → Row → Option PlainJudgment → List ℕ
-label_for v r (Some j) = line_name (slice_get v.pieces j.node) ++ row_text v.table r
+label_for v r (Some j) = row_name r (slice_get v.pieces j.node) ++ row_text v.table r
 label_for v r None = []
 
--- The name of a line: of an input, a name or a function, with the space where it isn't 0.
+-- The label of a line: of an input, a name, a function or a test, with the space where it isn't 0.
 unfoldable pub label_text : View → Asked → List ℕ
 label_text v a = label_for v a.spot.row (slice_get v.judgments a.number)
 
@@ -55,13 +63,23 @@ value_for None = []
 unfoldable pub value_text : View → Asked → List ℕ
 value_text v a = value_for (slice_get v.judgments a.number)
 
-unfoldable pub told_for : View → Cell → Option PlainJudgment → List ℕ
-told_for v c (Some j) = asked_text v.pieces j ++ (codes " is " ++ (value_shown j.value ++ cell_text v c))
-told_for v c None = []
+-- a test, with its time and its space
+unfoldable pub test_text : View → PlainJudgment → List ℕ
+test_text v j = tested_text (slice_get v.pieces j.node) ++ (codes " at " ++ (decimal j.time ++ space_text j.space))
 
--- What asks for a value, the value, and how it came.
+-- what asks for a value, or the test
+unfoldable pub told_name : View → Row → PlainJudgment → List ℕ
+told_name v (Input k) j = asked_text v.pieces j
+told_name v (Name n s) j = asked_text v.pieces j
+told_name v (Test n s) j = test_text v j
+
+unfoldable pub told_for : View → Row → Cell → Option PlainJudgment → List ℕ
+told_for v r c (Some j) = told_name v r j ++ (codes " is " ++ (value_shown j.value ++ cell_text v c))
+told_for v r c None = []
+
+-- What asks for a value or is a test, the value, and how it came.
 unfoldable pub told_text : View → Asked → List ℕ
-told_text v a = told_for v a.cell (slice_get v.judgments a.number)
+told_text v a = told_for v a.spot.row a.cell (slice_get v.judgments a.number)
 
 -- from which context a context is called, or the time that it remembers
 unfoldable pub origin_text : List ContextRow → Option ContextRow → List ℕ

@@ -1,5 +1,6 @@
 pub mod Spots
 pub mod Labels
+pub mod Looked
 pub mod Shown
 pub mod Panels
 pub mod Arrows

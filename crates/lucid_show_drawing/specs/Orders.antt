@@ -1,24 +1,21 @@
 -- Of the code: how what is shown stands, and where cells are found.
-use Rattle.std.specs.Prelude.{◌≡◌, ◌≢◌, ◌≤◌, ◌<◌, ℕ, false, List, [], ◌∷◌, ◌++◌, length, take, Option, Some, slice_get, slice_index_or, All, IsSome, MatchOption}
+use Rattle.std.specs.Prelude.{◌≡◌, ◌≢◌, ◌≤◌, ◌<◌, ℕ, false, List, [], ◌∷◌, ◌++◌, length, take, Option, Some, slice_get, slice_index_or, All, MatchOption}
 use Rattle.std.specs.Option.{option_to_list, option_map}
 use Rattle.indexmap.specs.IndexMap.{IndexMap, get}
-use Rattle.lucid_equations.specs.declared.table.Table.{Table}
-use Rattle.lucid_cert_rules.specs.Certificates.{PlainJudgment}
-use Rattle.lucid_cert_rules.specs.Cells.{asked_at, is_among}
-use Rattle.lucid_cert_rules.specs.Needs.{Needs}
+use Rattle.lucid_cert_rules.specs.Cells.{is_among}
 use Rattle.lucid_cert_rules.specs.contracts.cell.CellPartialEq.TheImpl.{eq-value}
 use Rattle.lucid_cert_rules.specs.declared.cell.Cell.{Cell}
 use Rattle.lucid_cert_rules.specs.declared.telling.Entry.{Entry}
 use Rattle.lucid_show_grid.specs.declared.grid.Arrow.{Arrow}
 use Rattle.lucid_show_outline.specs.Views.{View}
 use Rattle.lucid_show_drawing.specs.declared.asked.Asked.{Asked}
-use Rattle.lucid_show_drawing.specs.Shown.{IsAsked, cells_at, numbers}
+use Rattle.lucid_show_drawing.specs.Shown.{IsAsked, numbers}
 
--- each entry is of a judgment that asks
-abbrev pub AllAsk : Table → List PlainJudgment → List Entry → Type 0
-AllAsk T js es = All (λ (e : Entry). IsSome (asked_at T js e.asked)) es
+-- each entry is of a judgment that is there
+abbrev pub AllThere : View → List Entry → Type 0
+AllThere v es = All (λ (e : Entry). e.asked < length v.judgments) es
 
--- These are what the judgments of these numbers ask for.
+-- These are the boxes of the judgments of these numbers.
 pub record AreAsked (v : View) (ns : List ℕ) (xs : List Asked) : Type 0 where
   pub same : numbers xs ≡ ns
   pub each : All (IsAsked v) xs
@@ -63,9 +60,3 @@ arrow_by i k = record { from = i; to = k }
 abbrev pub arrows_by : (place : Cell → Option ℕ) → (from : ℕ) → List Cell → List Arrow
 arrows_by place i [] = []
 arrows_by place i (c ∷ cs) = option_to_list (option_map (arrow_by i) (place c)) ++ arrows_by place i cs
-
--- they are the cells that the judgment of a number was computed from
-pub record AreOutputs (v : View) (number : ℕ) (outputs : List Cell) : Type 0 where
-  pub found : List ℕ
-  pub needs : Needs v.table v.judgments number found
-  pub same : (c : Cell) → is_among outputs c ≡ is_among (cells_at v found) c

@@ -1,6 +1,6 @@
 -- Where what is asked for stands in a grid: in the panel of a context, in a line of that, and at a time.
 use Rattle.std.specs.Prelude.{ℕ, zero, suc, ◌-◌, ◌+◌, ◌==◌, List, Option, Some, None, slice_get, if◌then◌else◌}
-use Rattle.std.specs.Option.{option_and_then}
+use Rattle.std.specs.Option.{option_map}
 use Rattle.lucid_equations.specs.Rows.{row_at, name_at}
 use Rattle.lucid_equations.specs.declared.rows.Node.{Node}
 use Rattle.lucid_equations.specs.declared.rows.Node.TheVariants.{Input, Refer, Call}
@@ -46,17 +46,24 @@ unfoldable pub context_of : Option PlainJudgment → ℕ
 context_of (Some j) = j.context
 context_of None = 0
 
+-- a test that asks for nothing stands in the panel of its own context, in a line of its node
+abbrev pub test_spot : PlainJudgment → Spot
+test_spot j = record { context = j.context; row = line.Test j.node j.space; time = j.time }
+
 -- An input stands in the panel of the program, a name in that of the context that it belongs to, a call in that of the context that it enters.
-unfoldable pub spot_by : View → PlainJudgment → Node → Option Spot
-spot_by v j (Input k) = Some (record { context = 0; row = line.Input k; time = j.time })
-spot_by v j (Refer n l) =
-    Some (record { context = outer v.contexts l j.context; row = line.Name n j.space; time = time_of (name_at v.table n) j.time })
-spot_by v j (Call n p l) = Some (record { context = context_of (used v j.uses 0); row = line.Name n j.space; time = j.time })
-spot_by v j _ = None
+unfoldable pub spot_by : View → PlainJudgment → Node → Spot
+spot_by v j (Input k) = record { context = 0; row = line.Input k; time = j.time }
+spot_by v j (Refer n l) = record { context = outer v.contexts l j.context; row = line.Name n j.space; time = time_of (name_at v.table n) j.time }
+spot_by v j (Call n p l) = record { context = context_of (used v j.uses 0); row = line.Name n j.space; time = j.time }
+spot_by v j _ = test_spot j
 
-unfoldable pub spot_for : View → PlainJudgment → Option Spot
-spot_for v j = option_and_then (spot_by v j) (row_at v.table j.node)
+unfoldable pub spot_of : View → PlainJudgment → Option Node → Spot
+spot_of v j (Some n) = spot_by v j n
+spot_of v j None = test_spot j
 
--- where the value stands for which the judgment of a number asks
+unfoldable pub spot_for : View → PlainJudgment → Spot
+spot_for v j = spot_of v j (row_at v.table j.node)
+
+-- where the value stands for which the judgment of a number asks, or the test that it is
 unfoldable pub spot_at : View → (number : ℕ) → Option Spot
-spot_at v i = option_and_then (spot_for v) (slice_get v.judgments i)
+spot_at v i = option_map (spot_for v) (slice_get v.judgments i)

@@ -5,7 +5,8 @@ ghost use Rattle.lucid_show_outline.specs.Views.{view_of};
 ghost use Rattle.lucid_show_drawing.specs.Arrows.{AreArrows, cells_of};
 ghost use Rattle.lucid_show_drawing.specs.Orders.{ArePlaces, arrows_by, place_in};
 
-use crate::asked::{Asked, cells_at, needs_of};
+use crate::asked::Asked;
+use crate::looked::looked_at;
 use indexmap::IndexMap;
 use lucid_cert_rules::Cell;
 use lucid_show_grid::Arrow;
@@ -48,9 +49,8 @@ pub(crate) fn arrows(source: &Source<'_>, shown: &[Asked]) -> Result<Vec<Arrow>,
     let places = places(source.alloc(), shown)?;
     let mut arrows = Vec::new(source.alloc());
     for (from, asked) in shown.iter().enumerate() {
-        let found = needs_of(source, asked.cell)?;
-        let cells = cells_at(source, &found)?;
-        add_arrows(&mut arrows, &places, from, &cells)?;
+        let looked = looked_at(source, asked.cell)?;
+        add_arrows(&mut arrows, &places, from, looked.as_slice())?;
     }
     Ok(arrows)
 }

@@ -1,11 +1,11 @@
-//! What stands in a grid: names, values and contexts.
+//! What stands in a grid: names, tests, values and contexts.
 ghost use Rattle.std.specs.Prelude.{◌≡◌, ◌<◌, ◌++◌, OnOk, slice_get};
 ghost use Rattle.std.specs.Option.{option_copied, option_map};
 ghost use Rattle.std.specs.Borrow.{Bor};
 ghost use Rattle.lucid_cert_rules.specs.Certificates.{plain_judgment};
 ghost use Rattle.lucid_cert_rules.specs.declared.rows.JudgmentRow.{JudgmentRow as Judgment};
 ghost use Rattle.lucid_show_outline.specs.Views.{view_of};
-ghost use Rattle.lucid_show_drawing.specs.Labels.{called_text, line_name, each_text, row_text, label_for, label_text, value_for, told_for, origin_text, call_text, call_of, calls_text, entered_text, if_call, told_text, value_text, title_text};
+ghost use Rattle.lucid_show_drawing.specs.Labels.{called_text, line_name, each_text, row_text, row_name, label_for, label_text, value_for, test_text, told_name, told_for, origin_text, call_text, call_of, calls_text, entered_text, if_call, told_text, value_text, title_text};
 
 use crate::asked::Asked;
 use crate::spot::{Row, entry};
@@ -66,10 +66,28 @@ fn put_row(source: &Source<'_>, to: &mut Vec<u8>, row: Row) -> Result<(), AllocE
             put_space(to, space)?;
             put_each(to, entry(source, name))
         }
+        Row::Test { space, .. } => put_space(to, space),
     }
 }
 
-// Appends the name for which a judgment asks.
+// Appends the name of a line, by a node of it; of a test its whole text.
+#[tactic(auto, unfolding(crate::specs::Labels::row_name))]
+fn put_row_name(
+    source: &Source<'_>,
+    to: &mut Vec<u8>,
+    row: Row,
+    node: u32,
+) -> Result<(), AllocError>
+    ensures { OnOk result (to.new.items ≡ to.old.items ++ row_name row (slice_get (view_of source.now).pieces node)) }
+{
+    match row {
+        Row::Input { .. } => put_line_name(to, source.piece(node)),
+        Row::Name { .. } => put_line_name(to, source.piece(node)),
+        Row::Test { .. } => source.put_tested(to, node),
+    }
+}
+
+// Appends the label of the line of a judgment.
 #[tactic(auto, unfolding(crate::specs::Labels::label_for))]
 fn put_label_for(
     source: &Source<'_>,
@@ -82,14 +100,14 @@ fn put_label_for(
 {
     match judgment {
         Some(judgment) => {
-            put_line_name(to, source.piece(judgment.node))?;
+            put_row_name(source, to, row, judgment.node)?;
             put_row(source, to, row)
         }
         None => Ok(()),
     }
 }
 
-/// Appends the name of the line in which a value stands.
+/// Appends the label of the line in which a value stands.
 #[tactic(auto, unfolding(crate::specs::Labels::label_text))]
 pub(crate) fn put_label(
     source: &Source<'_>,
@@ -128,20 +146,49 @@ pub(crate) fn put_value_of(
     put_value_for(source, to, source.judgment(asked.number))
 }
 
-// Appends what is told of the value of a judgment: what asks for it, the value, and how it came.
+// Appends a test, with its time and its space.
+#[tactic(auto, unfolding(crate::specs::Labels::test_text))]
+fn put_test(source: &Source<'_>, to: &mut Vec<u8>, row: &JudgmentRow) -> Result<(), AllocError>
+    ensures { OnOk result (to.new.items ≡ to.old.items ++ test_text (view_of source.now) (plain_judgment row.now)) }
+{
+    source.put_tested(to, row.node)?;
+    to.extend_from_slice(b" at ")?;
+    put_digits(to, row.time)?;
+    put_space(to, row.space)
+}
+
+// Appends what asks for a value, or the test.
+#[tactic(auto, unfolding(crate::specs::Labels::told_name))]
+fn put_told_name(
+    source: &Source<'_>,
+    to: &mut Vec<u8>,
+    row: Row,
+    judgment: &JudgmentRow,
+) -> Result<(), AllocError>
+    ensures { OnOk result (to.new.items ≡ to.old.items ++ told_name (view_of source.now) row (plain_judgment judgment.now)) }
+{
+    match row {
+        Row::Input { .. } => source.put_asked(to, judgment),
+        Row::Name { .. } => source.put_asked(to, judgment),
+        Row::Test { .. } => put_test(source, to, judgment),
+    }
+}
+
+// Appends what is told of the value of a judgment: what asks for it or is a test, the value, and how it came.
 #[tactic(auto, unfolding(crate::specs::Labels::told_for))]
 fn put_told_for(
     source: &Source<'_>,
     to: &mut Vec<u8>,
+    row: Row,
     cell: Cell,
     judgment: Option<&JudgmentRow>,
 ) -> Result<(), AllocError>
     ensures { OnOk result (to.new.items ≡ to.old.items
-        ++ told_for (view_of source.now) cell (option_map (λ (j : Bor Judgment). plain_judgment j.now) judgment.entry)) }
+        ++ told_for (view_of source.now) row cell (option_map (λ (j : Bor Judgment). plain_judgment j.now) judgment.entry)) }
 {
     match judgment {
         Some(judgment) => {
-            source.put_asked(to, judgment)?;
+            put_told_name(source, to, row, judgment)?;
             to.extend_from_slice(b" is ")?;
             put_value(source.alloc(), to, &judgment.value)?;
             source.put_cell(to, cell)
@@ -159,7 +206,8 @@ pub(crate) fn put_told(
 ) -> Result<(), AllocError>
     ensures { OnOk result (to.new.items ≡ to.old.items ++ told_text (view_of source.now) asked) }
 {
-    put_told_for(source, to, asked.cell, source.judgment(asked.number))
+    let judgment = source.judgment(asked.number);
+    put_told_for(source, to, asked.spot.row, asked.cell, judgment)
 }
 
 // Appends what a context comes of: from which context it is called, or the time that it remembers.

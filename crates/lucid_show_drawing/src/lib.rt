@@ -1,4 +1,5 @@
-//! The grid of a demand: a value for each name, context and point that a certificate's references go to, with arrows to what it needed.
+//! The grid of a demand: a value for each name, context and point that a certificate's references go to, the tests of its searches, and arrows
+//! from each to what it looked at.
 #![tactic(auto)]
 
 pub use crate::drawing::grid;
@@ -8,5 +9,7 @@ mod asked;
 mod drawing;
 mod labels;
 pub mod laws;
+mod looked;
 mod panels;
+mod roles;
 mod spot;

@@ -1,63 +1,55 @@
 //! The panels of a grid.
 ghost use Rattle.std.specs.Prelude.{◌≡◌, ◌≢◌, ◌≤◌, ◌<◌, Some, All, length, map, take, IfOk, OnOk, slice_get};
 ghost use Rattle.std.specs.List.{AllZip};
-ghost use Rattle.lucid_cert_rules.specs.Cells.{is_among};
 ghost use Rattle.lucid_show_grid.specs.Grids.{plain_grid, plain_line, plain_mark, plain_panel};
 ghost use Rattle.lucid_show_outline.specs.Views.{view_of};
 ghost use Rattle.lucid_show_drawing.specs.Labels.{label_text};
 ghost use Rattle.lucid_show_drawing.specs.Orders.{AreFront, RowsTogether, StandTogether};
-ghost use Rattle.lucid_show_drawing.specs.Panels.{kind_of, AreLines, ArePanels, AreTimes, IsLine, IsMark, IsPanel};
+ghost use Rattle.lucid_show_drawing.specs.Panels.{kind_of, plain_roles, AreLines, ArePanels, AreTimes, IsLine, IsMark, IsPanel};
 
-use crate::asked::{Asked, needs_of};
+use crate::asked::Asked;
 use crate::labels::{put_label, put_title, put_told, put_value_of};
+use crate::looked::looked_at;
+use crate::roles::{Roles, holds, kind_by};
 use crate::spot::Row;
-use indexmap::IndexSet;
-use lucid_cert_rules::Cell;
 use lucid_show_grid::{Kind, Line, Mark, Panel};
 use lucid_show_outline::Source;
 use std::alloc::AllocError;
 
-// What a value is: one that needed no other, or any other.
-#[tactic(auto, unfolding(crate::specs::Panels::kind_of))]
-fn kind_of(found: &[u64]) -> Kind
-    ensures { result ≡ kind_of found.now }
+// What a box is.
+fn kind_of(source: &Source<'_>, roles: &Roles, asked: Asked) -> Result<Kind, AllocError>
+    ensures { IfOk result (λ kind. kind ≡ kind_of (view_of source.now) (plain_roles roles.now) asked) }
 {
-    if found.len() == 0 {
-        Kind::Leaf
-    } else {
-        Kind::Inner
-    }
+    let looked = looked_at(source, asked.cell)?;
+    let is_test = roles.tests.contains(&asked.cell);
+    Ok(kind_by(is_test, holds(source, asked.number), looked.as_slice()))
 }
 
 // A value as it is drawn.
-fn mark(source: &Source<'_>, outputs: &IndexSet<Cell>, asked: Asked) -> Result<Mark, AllocError>
-    ensures { IfOk result (λ mark. IsMark (view_of source.now) (is_among outputs.now.keys) asked (plain_mark mark)) }
+fn mark(source: &Source<'_>, roles: &Roles, asked: Asked) -> Result<Mark, AllocError>
+    ensures { IfOk result (λ mark. IsMark (view_of source.now) (plain_roles roles.now) asked (plain_mark mark)) }
 {
-    let found = needs_of(source, asked.cell)?;
+    let kind = kind_of(source, roles, asked)?;
     let mut value = Vec::new(source.alloc());
     put_value_of(source, &mut value, asked)?;
     let mut told = Vec::new(source.alloc());
     put_told(source, &mut told, asked)?;
     Ok(Mark {
         time: asked.spot.time,
-        kind: kind_of(&found),
-        is_output: outputs.contains(&asked.cell),
+        kind,
+        is_output: roles.outputs.contains(&asked.cell),
         value,
         told,
     })
 }
 
 // The values of a line.
-fn marks(
-    source: &Source<'_>,
-    outputs: &IndexSet<Cell>,
-    these: &[Asked],
-) -> Result<Vec<Mark>, AllocError>
-    ensures { IfOk result (λ marks. AllZip (IsMark (view_of source.now) (is_among outputs.now.keys)) these.now (map plain_mark marks.items)) }
+fn marks(source: &Source<'_>, roles: &Roles, these: &[Asked]) -> Result<Vec<Mark>, AllocError>
+    ensures { IfOk result (λ marks. AllZip (IsMark (view_of source.now) (plain_roles roles.now)) these.now (map plain_mark marks.items)) }
 {
     let mut marks = Vec::new(source.alloc());
     for asked in these {
-        marks.push(mark(source, outputs, *asked)?)?;
+        marks.push(mark(source, roles, *asked)?)?;
     }
     Ok(marks)
 }
@@ -65,17 +57,17 @@ fn marks(
 // The line of these values, of which one is the first.
 fn line(
     source: &Source<'_>,
-    outputs: &IndexSet<Cell>,
+    roles: &Roles,
     these: &[Asked],
     first: Asked,
 ) -> Result<Line, AllocError>
     requires front { slice_get these.now 0 ≡ Some first }
     requires same { All (λ a. a.spot.row ≡ first.spot.row) these.now }
-    ensures { IfOk result (λ line. IsLine (view_of source.now) (is_among outputs.now.keys) these.now first (plain_line line)) }
+    ensures { IfOk result (λ line. IsLine (view_of source.now) (plain_roles roles.now) these.now first (plain_line line)) }
 {
     let mut label = Vec::new(source.alloc());
     put_label(source, &mut label, first)?;
-    let marks = marks(source, outputs, these)?;
+    let marks = marks(source, roles, these)?;
     Ok(Line { label, marks })
 }
 
@@ -92,19 +84,15 @@ fn in_row(these: &[Asked], row: Row) -> usize
 }
 
 // The lines of a panel.
-fn lines(
-    source: &Source<'_>,
-    outputs: &IndexSet<Cell>,
-    panel: &[Asked],
-) -> Result<Vec<Line>, AllocError>
+fn lines(source: &Source<'_>, roles: &Roles, panel: &[Asked]) -> Result<Vec<Line>, AllocError>
     requires { RowsTogether panel.now }
-    ensures { IfOk result (λ lines. AreLines (view_of source.now) (is_among outputs.now.keys) panel.now (map plain_line lines.items)) }
+    ensures { IfOk result (λ lines. AreLines (view_of source.now) (plain_roles roles.now) panel.now (map plain_line lines.items)) }
 {
     let mut lines = Vec::new(source.alloc());
     let mut rest = panel;
     while let Some(first) = rest.first() {
         let (these, more) = rest.split_at(in_row(rest, first.spot.row));
-        lines.push(line(source, outputs, these, *first)?)?;
+        lines.push(line(source, roles, these, *first)?)?;
         rest = more;
     }
     Ok(lines)
@@ -126,19 +114,19 @@ fn times(source: &Source<'_>, panel: &[Asked]) -> Result<Vec<u64>, AllocError>
 // The panel of these values, which stand in one context.
 fn panel(
     source: &Source<'_>,
-    outputs: &IndexSet<Cell>,
+    roles: &Roles,
     context: u32,
     these: &[Asked],
 ) -> Result<Panel, AllocError>
     requires some { 0 < length these.now }
     requires same { All (λ a. a.spot.context ≡ context) these.now }
     requires together { RowsTogether these.now }
-    ensures { IfOk result (λ drawn. IsPanel (view_of source.now) (is_among outputs.now.keys) context these.now (plain_panel drawn)) }
+    ensures { IfOk result (λ drawn. IsPanel (view_of source.now) (plain_roles roles.now) context these.now (plain_panel drawn)) }
 {
     let mut title = Vec::new(source.alloc());
     put_title(source, &mut title, context, these)?;
     let times = times(source, these)?;
-    let lines = lines(source, outputs, these)?;
+    let lines = lines(source, roles, these)?;
     Ok(Panel {
         title,
         times,
@@ -161,18 +149,18 @@ fn in_context(these: &[Asked], context: u32) -> usize
 /// The panels of what is shown.
 pub(crate) fn panels(
     source: &Source<'_>,
-    outputs: &IndexSet<Cell>,
+    roles: &Roles,
     shown: &[Asked],
 ) -> Result<Vec<Panel>, AllocError>
     requires { StandTogether shown.now }
-    ensures { IfOk result (λ panels. ArePanels (view_of source.now) (is_among outputs.now.keys) shown.now (map plain_panel panels.items)) }
+    ensures { IfOk result (λ panels. ArePanels (view_of source.now) (plain_roles roles.now) shown.now (map plain_panel panels.items)) }
 {
     let mut panels = Vec::new(source.alloc());
     let mut rest = shown;
     while let Some(first) = rest.first() {
         let context = first.spot.context;
         let (these, more) = rest.split_at(in_context(rest, context));
-        panels.push(panel(source, outputs, context, these)?)?;
+        panels.push(panel(source, roles, context, these)?)?;
         rest = more;
     }
     Ok(panels)

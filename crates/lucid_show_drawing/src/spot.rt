@@ -4,17 +4,18 @@ ghost use Rattle.std.specs.Option.{option_copied};
 ghost use Rattle.lucid_cert_rules.specs.Certificates.{plain_judgment};
 ghost use Rattle.lucid_equations.specs.Rows.{name_at};
 ghost use Rattle.lucid_show_outline.specs.Views.{view_of, used};
-ghost use Rattle.lucid_show_drawing.specs.Spots.{base_of, base_at, context_of, frames, without, outer, time_of, spot_by, spot_for, spot_at};
+ghost use Rattle.lucid_show_drawing.specs.Spots.{base_of, base_at, context_of, frames, without, outer, time_of, test_spot, spot_by, spot_of, spot_for, spot_at};
 
 use lucid_cert_rules::{ContextRow, JudgmentRow};
 use lucid_equations::{Entry, Node};
 use lucid_show_outline::Source;
 
-/// A line of a panel: an input, or a name or a function at a space.
+/// A line of a panel: an input, or a name, a function or a test at a space. A test is told by the number of its node.
 #[derive(Clone, Copy, PartialEq, Eq, PartialOrd, Ord)]
 pub enum Row {
     Input { stream: u32 },
     Name { name: u32, space: u64 },
+    Test { node: u32, space: u64 },
 }
 
 /// Where a value stands: in the panel of a context, in a line of that, and at a time. Of a current name, which has one value for all times, the
@@ -116,44 +117,67 @@ fn entered(source: &Source<'_>, row: &JudgmentRow) -> u32
     }
 }
 
-// Where the value stands for which a judgment of this node asks.
+// Where a test stands that asks for nothing.
+fn test_spot(row: &JudgmentRow) -> Spot
+    ensures { result ≡ test_spot (plain_judgment row.now) }
+{
+    let (node, space, time) = (row.node, row.space, row.time);
+    Spot {
+        context: row.context,
+        row: Row::Test { node, space },
+        time,
+    }
+}
+
+// Where the value stands for which a judgment of this node asks, or the test that it is.
 #[tactic(auto, unfolding(crate::specs::Spots::spot_by))]
-fn spot_by(source: &Source<'_>, row: &JudgmentRow, node: Node) -> Option<Spot>
+fn spot_by(source: &Source<'_>, row: &JudgmentRow, node: Node) -> Spot
     ensures { result ≡ spot_by (view_of source.now) (plain_judgment row.now) node }
 {
     let space = row.space;
     match node {
-        Node::Input { stream } => Some(Spot {
+        Node::Input { stream } => Spot {
             context: 0,
             row: Row::Input { stream },
             time: row.time,
-        }),
-        Node::Refer { name, level } => Some(Spot {
+        },
+        Node::Refer { name, level } => Spot {
             context: outer(source.contexts(), level, row.context),
             row: Row::Name { name, space },
             time: time_of(entry(source, name), row.time),
-        }),
-        Node::Call { name, .. } => Some(Spot {
+        },
+        Node::Call { name, .. } => Spot {
             context: entered(source, row),
             row: Row::Name { name, space },
             time: row.time,
-        }),
-        _ => None,
+        },
+        _ => test_spot(row),
     }
 }
 
 // The same of a judgment whose node may not be there.
-#[tactic(auto, unfolding(crate::specs::Spots::spot_for))]
-fn spot_for(source: &Source<'_>, row: &JudgmentRow) -> Option<Spot>
-    ensures { result ≡ spot_for (view_of source.now) (plain_judgment row.now) }
+#[tactic(auto, unfolding(crate::specs::Spots::spot_of))]
+fn spot_of(source: &Source<'_>, row: &JudgmentRow, node: Option<Node>) -> Spot
+    ensures { result ≡ spot_of (view_of source.now) (plain_judgment row.now) node }
 {
-    spot_by(source, row, source.node(row.node)?)
+    match node {
+        Some(node) => spot_by(source, row, node),
+        None => test_spot(row),
+    }
 }
 
-/// Where the value stands for which the judgment of a number asks, where it asks for one.
+// The same, where its node is found.
+#[tactic(auto, unfolding(crate::specs::Spots::spot_for))]
+fn spot_for(source: &Source<'_>, row: &JudgmentRow) -> Spot
+    ensures { result ≡ spot_for (view_of source.now) (plain_judgment row.now) }
+{
+    spot_of(source, row, source.node(row.node))
+}
+
+/// Where the value stands for which the judgment of a number asks, or the test that it is.
 #[tactic(auto, unfolding(crate::specs::Spots::spot_at))]
 pub(crate) fn spot_at(source: &Source<'_>, number: u64) -> Option<Spot>
     ensures { result ≡ spot_at (view_of source.now) number }
 {
-    spot_for(source, source.judgment(number)?)
+    Some(spot_for(source, source.judgment(number)?))
 }

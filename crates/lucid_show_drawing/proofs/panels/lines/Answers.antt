@@ -1,8 +1,8 @@
 use Rattle.lucid_show_drawing.proofs.Common.{◌≡◌, ◌∷◌, [], Some, map, sym, ap, subst, ◌∙◌, slice_get}
 use Rattle.std.proofs.lemmas.List.{map-append}
-use Rattle.lucid_cert_rules.specs.Cells.{is_among}
 use Rattle.lucid_show_grid.specs.Grids.{plain_line}
 use Rattle.lucid_show_outline.specs.Views.{view_of}
+use Rattle.lucid_show_drawing.specs.Panels.{plain_roles}
 use Rattle.lucid_show_drawing.specs.declared.asked.Asked.{Asked}
 use Rattle.lucid_show_drawing.specs.Orders.{RowsTogether}
 use Rattle.lucid_show_drawing.proofs.Grouped.{all_lines, line_more}
@@ -15,7 +15,7 @@ loop-first-preserved c =
     record {
       together = subst RowsTogether (sym c.split_at.ensures.back)
           (SideBySide-drop (λ (a : Asked). a.spot.row) c.in_row.result c.loop-first.rest.now c.loop-first.invariant.together);
-      so_far = line_more (view_of c.args.source.now) (is_among c.args.outputs.now.keys) c.args.panel.now c.loop-first.rest.now c.split_at.result.0.now
+      so_far = line_more (view_of c.args.source.now) (plain_roles c.args.roles.now) c.args.panel.now c.loop-first.rest.now c.split_at.result.0.now
           c.split_at.result.1.now c.in_row.result c.in-Some.first.now c.split_at.ensures.front c.split_at.ensures.back at_front
           (plain_line c.in_ok-line.field-0) (map plain_line c.loop-first.lines.items) (map plain_line c.push.new.self.items)
           c.loop-first.invariant.together c.in_row.ensures c.in_ok-line.ensures
@@ -25,5 +25,5 @@ loop-first-preserved c =
 
 pub returns : goal.returns
 returns c =
-    all_lines (view_of c.args.source.now) (is_among c.args.outputs.now.keys) c.args.panel.now c.loop-first.rest.now
+    all_lines (view_of c.args.source.now) (plain_roles c.args.roles.now) c.args.panel.now c.loop-first.rest.now
     (map plain_line c.loop-first.lines.items) c.in_default.ensures.value c.loop-first.invariant.so_far

@@ -1,8 +1,8 @@
 use Rattle.lucid_show_drawing.proofs.Common.{◌≡◌, ◌∷◌, [], Some, map, sym, ap, subst, ◌∙◌, slice_get}
 use Rattle.std.proofs.lemmas.List.{map-append}
-use Rattle.lucid_cert_rules.specs.Cells.{is_among}
 use Rattle.lucid_show_grid.specs.Grids.{plain_panel}
 use Rattle.lucid_show_outline.specs.Views.{view_of}
+use Rattle.lucid_show_drawing.specs.Panels.{plain_roles}
 use Rattle.lucid_show_drawing.specs.declared.asked.Asked.{Asked}
 use Rattle.lucid_show_drawing.specs.Orders.{RowsTogether, StandTogether}
 use Rattle.lucid_show_drawing.proofs.Grouped.{all_panels, panel_more}
@@ -21,7 +21,7 @@ loop-first-preserved c =
     record {
       together = subst StandTogether (sym c.split_at.ensures.back)
           (StandTogether-drop c.in_context.result c.loop-first.rest.now c.loop-first.invariant.together);
-      so_far = panel_more (view_of c.args.source.now) (is_among c.args.outputs.now.keys) c.args.shown.now c.loop-first.rest.now c.split_at.result.0.now
+      so_far = panel_more (view_of c.args.source.now) (plain_roles c.args.roles.now) c.args.shown.now c.loop-first.rest.now c.split_at.result.0.now
           c.split_at.result.1.now c.in_context.result c.in-Some.first.now c.split_at.ensures.front c.split_at.ensures.back at_front
           (plain_panel c.in_ok-panel.field-0) (map plain_panel c.loop-first.panels.items) (map plain_panel c.push.new.self.items)
           c.loop-first.invariant.together c.in_context.ensures c.in_ok-panel.ensures
@@ -31,5 +31,5 @@ loop-first-preserved c =
 
 pub returns : goal.returns
 returns c =
-    all_panels (view_of c.args.source.now) (is_among c.args.outputs.now.keys) c.args.shown.now c.loop-first.rest.now
+    all_panels (view_of c.args.source.now) (plain_roles c.args.roles.now) c.args.shown.now c.loop-first.rest.now
     (map plain_panel c.loop-first.panels.items) c.in_default.ensures.value c.loop-first.invariant.so_far
