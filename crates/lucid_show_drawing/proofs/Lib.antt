@@ -12,3 +12,4 @@ pub mod Shown
 pub mod Demanded
 pub mod LookedAt
 pub mod Looks
+pub mod Seen

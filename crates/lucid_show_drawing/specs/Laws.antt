@@ -75,3 +75,12 @@ ArrowsAreLooks =
     → ((a : Arrow) → In a g.arrows → IsOfLook v (cells_of is.shown) a)
     × (UsesAreEarlier v.judgments → (i : ℕ) (c d : Cell) → slice_get (cells_of is.shown) i ≡ Some c → Looks v c d → In d (cells_of is.shown)
     → (k : ℕ) × (slice_get (cells_of is.shown) k ≡ Some d) × ((a : Arrow) × (a.from ≡ i) × (a.to ≡ k) × In a g.arrows))
+
+-- The judgment of a number saw a cell: it looked at a judgment that asks for the cell, or at a test that saw the cell.
+pub data Sees (v : View) : (number : ℕ) → Cell → Type 0 where
+  at_once : {i k : ℕ} {c : Cell} → LooksAt v i k → asked_at v.table v.judgments k ≡ Some c → Sees v i c
+  past : {i t : ℕ} {c : Cell} → LooksAt v i t → asked_at v.table v.judgments t ≡ None → Sees v t c → Sees v i c
+
+-- What a judgment was computed from is what it saw. So arrows lead from a value, past tests alone, exactly to those from which it was computed.
+abbrev pub LooksAreUses : Type 0
+LooksAreUses = (v : View) (i : ℕ) (c : Cell) → (IsUsedBy v.table v.judgments i c → Sees v i c) × (Sees v i c → IsUsedBy v.table v.judgments i c)

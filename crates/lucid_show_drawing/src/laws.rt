@@ -1,5 +1,5 @@
 //! The laws of grids, as the contracts of functions that do nothing.
-ghost use Rattle.lucid_show_drawing.specs.Laws.{ArrowsAreLooks, WhatIsDemandedIsShown};
+ghost use Rattle.lucid_show_drawing.specs.Laws.{ArrowsAreLooks, LooksAreUses, WhatIsDemandedIsShown};
 
 use lucid_cert_rules::need_laws::needs_are_reached;
 
@@ -13,4 +13,9 @@ pub fn what_is_demanded_is_shown()
 /// Arrows go exactly from a box to those at which it looked, as far as these are shown.
 pub fn arrows_are_looks()
     ensures { ArrowsAreLooks }
+{}
+
+/// What is seen past tests is what a value was computed from.
+pub fn looks_are_uses()
+    ensures { LooksAreUses }
 {}
