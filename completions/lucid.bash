@@ -9,7 +9,7 @@ _lucid() {
     local options='--count --depth --policy --age --room --stats --print --columns --cycles --why --check --flat --from-flat --make'
     local current=${COMP_WORDS[COMP_CWORD]} before=${COMP_WORDS[COMP_CWORD - 1]} program='' is_value='' i
     if [[ ${1##*/} == lucid_show ]]; then
-        options='--at --as --depth --names --cells'
+        options='--at --as --depth --names --cells --steps --count --policy --age --room'
     fi
     COMPREPLY=()
     # bash parts words at `=`

@@ -16,7 +16,8 @@ FIB_AT_4 = """output at 4 is 3   = f at 4
           g at 0 is 1   (above)
         g at 1 is 1   (above)
 """
-USAGE = "usage: lucid_show [--at T] [--as outline|grid|svg] [--depth N] [--names LIST] [--cells N] PROGRAM [NAME=FILE]...\n"
+USAGE = "usage: lucid_show [--at T] [--as outline|grid|svg] [--depth N] [--names LIST] [--cells N] PROGRAM [NAME=FILE]... | " \
+    "lucid_show --steps [--count N] [--policy keep|none|age|last] [--age K] [--room N] [--depth N] [--cells N] PROGRAM [NAME=FILE]...\n"
 
 
 @case
@@ -52,7 +53,16 @@ def the_lines_of_names_are_shown(run):
 .. (lines left out: 4)
 .. (lines of other names: 4)
 """)
-    run.showing().lucid("p", "--names", "h").must("output at 4 is 3   = f at 4\n.. (lines of other names: 10)\n")
+
+
+@case
+def a_name_that_the_program_has_not_is_told(run):
+    """The first one. A name of a definition, of a parameter or of an input is one of the program, though no line is of it."""
+    run.source("n where n = twice(a); twice(x) = x + y where y = x; end; z = 1; end")
+    for form in ["outline", "grid", "svg"]:
+        run.showing().lucid("p", "--at=0", f"--as={form}", "--names=n,h,g", given="1\n").must("", 1, "no name h\n")
+    for name in ["n", "twice", "x", "y", "a", "z"]:
+        run.showing().lucid("p", "--at=0", "--names", name, given="1\n").must()
 
 
 @case

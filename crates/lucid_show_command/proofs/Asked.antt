@@ -11,7 +11,7 @@ use Rattle.lucid_top.specs.declared.task.Task.{Task}
 use Rattle.lucid_top.specs.declared.task.Task.TheVariants.{Why}
 use Rattle.lucid_top.specs.Tasks.{task_of}
 use Rattle.lucid_show_command.specs.declared.form.Form.{Form}
-use Rattle.lucid_show_command.specs.Words.{asked, for_certificate, is_why, of_words, show_command, words_shown}
+use Rattle.lucid_show_command.specs.Words.{asked, for_certificate, for_run, is_run, is_why, of_words, show_command, words_shown}
 
 -- words that ask for a certificate, and others
 pub for_why : (w : PlainWords) → is_why (task_of w) ≡ true → for_certificate w ≡ Some w
@@ -39,6 +39,13 @@ module _ (asked : Option PlainWords) (names : Option (List Text)) (form : Option
 
   pub of_no_form : (w : PlainWords) (ns : List Text) → asked ≡ Some w → names ≡ Some ns → form ≡ None → of_words asked names form ≡ None
   of_no_form w ns is are none = λ j. of_words (is j) (are j) (none j)
+
+-- the same of a run
+pub for_a_run : (w : PlainWords) → is_run (task_of w) ≡ true → for_run w ≡ Some w
+for_a_run w is = ap (λ (b : Bool). if b then Some w else None) is
+
+pub for_no_run : (w : PlainWords) → is_run (task_of w) ≡ false → for_run w ≡ None
+for_no_run w is = ap (λ (b : Bool). if b then Some w else None) is
 
 -- the command is one of which `clap` says what it takes
 is_simple_one : is_simple show_command ≡ true

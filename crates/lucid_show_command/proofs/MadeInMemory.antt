@@ -1,5 +1,8 @@
 -- What comes of a certificate that is made in memory.
-use Rattle.lucid_show_command.proofs.Common.{◌≡◌, ℕ, List, [], Some, Ok, Err, inl, inr, subst, PlainWords}
+use Rattle.lucid_show_command.proofs.Common.{◌≡◌, ℕ, List, [], Some, Ok, Err, inl, inr, sym, subst, PlainWords}
+use Rattle.std.specs.Prelude.{Result, IfOk}
+use Rattle.std.specs.declared.alloc.AllocError.{AllocError}
+use Rattle.lucid_tree.specs.Tree.{PlainTree}
 use Rattle.lucid_ports.specs.World.{World}
 use Rattle.lucid_session.specs.Runs.{PolicyView}
 use Rattle.lucid_ports.specs.Told.{Told}
@@ -9,8 +12,16 @@ use Rattle.lucid_report.specs.declared.stop.Stop.{Stop}
 use Rattle.lucid_report.specs.declared.stop.Stop.TheVariants as stop
 use Rattle.lucid_top.specs.Call.{call_under}
 use Rattle.lucid_top.specs.Coming.{Does}
+use Rattle.lucid_report.specs.Telling.{Tells}
+use Rattle.lucid_report.specs.declared.status.Status.{Status}
+use Rattle.lucid_report.specs.declared.status.Status.TheVariants as status
+use Rattle.lucid_top.specs.Judged.{HasInputs}
+use Rattle.lucid_top.specs.Places.{IsAccepted}
 use Rattle.lucid_top.specs.Writing.{WritesOnly}
-use Rattle.lucid_show_command.specs.Shows.{DrawsSource, MakesInMemory, Shown, in_memory}
+use Rattle.lucid_show_command.specs.declared.showing.Drawn.{Drawn}
+use Rattle.lucid_show_command.specs.declared.showing.Drawn.TheVariants as drawn
+use Rattle.lucid_show_command.specs.Running.{TellsLine, in_memory}
+use Rattle.lucid_show_command.specs.Shows.{Draws, IsDrawn, MakesInMemory, Shown, ShowsMade, TellsDrawn, draws, no_memory, no_name}
 use Rattle.lucid_show_command.specs.Words.{PlainWanted}
 
 -- what is written of one kind is written of a wider one
@@ -33,25 +44,39 @@ module _ (words : PlainWords) (before after : World) (made_before made_after : T
         (subst (λ (t : Told). Does (call_under policy (Some words) before after t made_after) o) empty (does policy));
   }
 
-module _ (wanted : PlainWanted) (before after : World) (out_before out_after : Told) (bytes : List ℕ) where
+module _ (wanted : PlainWanted) (before after : World) (out_before out_after report_before report_after : Told) (s : Status) (bytes : List ℕ) where
   -- no certificate is made
   pub shown_stopped : (why : Stop) → MakesInMemory wanted.words before after bytes (Err why) → out_after.bytes ≡ out_before.bytes
-      → Shown wanted before after out_before out_after (Err why)
-  shown_stopped why made silent = record {
+      → Tells (Err why) s report_before report_after → Shown wanted before after out_before out_after report_before report_after s
+  shown_stopped why made silent tells = record {
     made = Err why;
     certificate = bytes;
     makes = made;
-    stopped = λ other is. (is, silent);
+    stopped = λ other is. (silent, subst (λ (o : Outcome). Tells o s report_before report_after) is tells);
     shows = λ d is. absurd (cc is);
   }
 
   -- one is
-  pub shown_made : (o : Outcome) → MakesInMemory wanted.words before after bytes (Ok done.Written)
-      → WritesOnly (DrawsSource wanted before bytes) out_before out_after o → Shown wanted before after out_before out_after o
-  shown_made o made writes = record {
+  pub shown_made : MakesInMemory wanted.words before after bytes (Ok done.Written)
+      → ShowsMade wanted before bytes out_before out_after report_before report_after s
+      → Shown wanted before after out_before out_after report_before report_after s
+  shown_made made shows = record {
     made = Ok done.Written;
     certificate = bytes;
     makes = made;
     stopped = λ why is. absurd (cc is);
-    shows = λ d is. writes;
+    shows = λ d is. shows;
   }
+
+module _ (wanted : PlainWanted) (before : World) (certificate : List ℕ) (e : PlainTree) (inputs : List (List ℕ))
+    (accepted : IsAccepted wanted.words.source before e) (has : HasInputs e inputs) (out_before out_after report_before report_after : Told) (s : Status) where
+  -- what is drawn of it is told
+  pub shows_drawn : (d : Result Drawn AllocError) → IfOk d (IsDrawn e inputs certificate wanted)
+      → TellsDrawn d out_before out_after report_before report_after s → ShowsMade wanted before certificate out_before out_after report_before report_after s
+  shows_drawn (Ok (drawn.Text text)) is tells =
+      draws e inputs accepted has is.0 tells.0
+      (writes_wider (λ written. written ≡ text.items) (Draws e inputs certificate wanted)
+      (λ written same. subst (Draws e inputs certificate wanted) (sym same) is.1) out_before out_after tells.0 tells.1) tells.2
+  shows_drawn (Ok (drawn.NoName line)) is tells =
+      no_name e inputs accepted has is.0 is.1 tells.0 (subst (λ (l : List ℕ). TellsLine l status.Refused s report_before report_after) is.2 tells.1)
+  shows_drawn (Err error) is tells = no_memory tells.0 tells.1

@@ -1,4 +1,6 @@
 pub mod Words
+pub mod Named
+pub mod Running
 pub mod Shows
 pub mod Help
 pub mod Meant

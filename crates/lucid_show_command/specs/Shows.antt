@@ -1,8 +1,8 @@
--- What is shown of a program: a certificate of its value at the time that is asked for.
-use Rattle.std.specs.Prelude.{◌≡◌, ◌⊎◌, ℕ, ◌-◌, List, [], length, codes, Option, Some, None, Ok, Err}
+-- What is shown of a program: a certificate of its value at the time that is asked for, or the steps of a run.
+use Rattle.std.specs.Prelude.{◌≡◌, ℕ, ◌-◌, ◌++◌, List, [], length, codes, Option, Some, None, Result, Ok, Err}
+use Rattle.std.specs.declared.alloc.AllocError.{AllocError}
 use Rattle.lucid_tree.specs.Tree.{PlainTree}
 use Rattle.lucid_ports.specs.World.{World}
-use Rattle.lucid_ports.specs.Faults.{Rises}
 use Rattle.lucid_compile.specs.Settled.{table_of}
 use Rattle.lucid_cert_rules.specs.WhyTexts.{IsTextOf}
 use Rattle.lucid_cert_rules.specs.declared.rows.Why.{Why}
@@ -12,7 +12,9 @@ use Rattle.lucid_words.specs.declared.WordsRefusal.TheVariants as refusal
 use Rattle.lucid_session.specs.Runs.{PolicyView}
 use Rattle.lucid_ports.specs.Told.{Told}
 use Rattle.lucid_report.specs.Status.{Outcome}
-use Rattle.lucid_report.specs.Telling.{Tells, WritesFront, WritesWhole}
+use Rattle.lucid_explain_report.specs.Files.{Files}
+use Rattle.lucid_explain_source.specs.Scopes.{all_defs}
+use Rattle.lucid_report.specs.Telling.{Tells}
 use Rattle.lucid_report.specs.declared.status.Status.{Status}
 use Rattle.lucid_report.specs.declared.status.Status.TheVariants as status
 use Rattle.lucid_report.specs.declared.stop.Done.{Done}
@@ -31,11 +33,11 @@ use Rattle.lucid_show_grid.specs.Picture.{picture_text}
 use Rattle.lucid_show_drawing.specs.Drawings.{IsGridOf}
 use Rattle.lucid_show_command.specs.declared.form.Form.{Form}
 use Rattle.lucid_show_command.specs.declared.form.Form.TheVariants as form
-use Rattle.lucid_show_command.specs.Words.{PlainWanted}
-
--- an output in memory that has these bytes, with so many faults and late calls
-abbrev pub in_memory : List ℕ → (faults late : ℕ) → Told
-in_memory bytes faults late = record { bytes = Some bytes; faults = faults; late = late }
+use Rattle.lucid_show_command.specs.declared.showing.Drawn.{Drawn}
+use Rattle.lucid_show_command.specs.declared.showing.Drawn.TheVariants as drawn
+use Rattle.lucid_show_command.specs.Named.{first_unknown}
+use Rattle.lucid_show_command.specs.Running.{ShowsRun, TellsLine, in_memory}
+use Rattle.lucid_show_command.specs.Words.{PlainAsked, PlainSteps, PlainWanted, misplaced, steps, value}
 
 -- a call of `lucid` by these words that writes these bytes into memory
 abbrev pub call_in_memory : PolicyView → PlainWords → (before after : World) → (bytes : List ℕ) → (faults late : ℕ) → Call
@@ -62,48 +64,76 @@ abbrev pub Draws : PlainTree → (inputs : List (List ℕ)) → (certificate : L
 Draws e inputs certificate wanted text =
     (w : Why) × IsTextOf certificate w × IsDrawing wanted.form (view (table_of e inputs) e w wanted.names) wanted.words.count text
 
--- It is that of the tree that the words' source is accepted as.
-pub record DrawsSource (wanted : PlainWanted) (before : World) (certificate : List ℕ) (text : List ℕ) : Type 0 where
-  pub tree : PlainTree
-  pub accepted : IsAccepted wanted.words.source before tree
-  pub inputs : List (List ℕ)
-  pub has : HasInputs tree inputs
-  pub draws : Draws tree inputs certificate wanted text
+-- the line that tells a name which the program hasn't
+abbrev pub no_name_text : (name : List ℕ) → List ℕ
+no_name_text name = codes "no name " ++ (name ++ codes "\n")
 
--- What comes of words that are read. A certificate is made as `lucid` makes it. Where none is, nothing is written, and the outcome is that of the
--- making. Else what shows the certificate is written; where a write failed, a front of it.
-pub record Shown (wanted : PlainWanted) (before after : World) (out_before out_after : Told) (o : Outcome) : Type 0 where
+-- the first wanted name that a tree with these inputs hasn't
+abbrev pub unknown_in : PlainTree → (inputs : List (List ℕ)) → PlainWanted → Option (List ℕ)
+unknown_in e inputs wanted = first_unknown (all_defs e) inputs wanted.names
+
+-- what is drawn of a certificate: a text that shows it, or the line that tells the first wanted name which the program hasn't
+abbrev pub IsDrawn : PlainTree → (inputs : List (List ℕ)) → (certificate : List ℕ) → PlainWanted → Drawn → Type 0
+IsDrawn e inputs certificate wanted (drawn.Text text) = (unknown_in e inputs wanted ≡ None) × Draws e inputs certificate wanted text.items
+IsDrawn e inputs certificate wanted (drawn.NoName line) = (name : List ℕ) × (unknown_in e inputs wanted ≡ Some name) × (line.items ≡ no_name_text name)
+
+-- The text that is drawn is written, and its outcome told; the line is told; or that there is no memory.
+abbrev pub TellsDrawn : Result Drawn AllocError → (out_before out_after report_before report_after : Told) → Status → Type 0
+TellsDrawn (Ok (drawn.Text text)) out_before out_after report_before report_after s =
+    (o : Outcome) × WritesOnly (λ written. written ≡ text.items) out_before out_after o × Tells o s report_before report_after
+TellsDrawn (Ok (drawn.NoName line)) out_before out_after report_before report_after s =
+    (out_after.bytes ≡ out_before.bytes) × TellsLine line.items status.Refused s report_before report_after
+TellsDrawn (Err error) out_before out_after report_before report_after s =
+    (out_after.bytes ≡ out_before.bytes) × Tells (Err stop.NoMemory) s report_before report_after
+
+-- What comes of a certificate that was made, of the tree that the words' source is accepted as. What shows it is written; where a write failed, a
+-- front of it. Where a name is wanted that the program hasn't, nothing is written and the first such name is told.
+pub data ShowsMade (wanted : PlainWanted) (before : World) (certificate : List ℕ) (out_before out_after report_before report_after : Told) (s : Status)
+    : Type 0 where
+  draws : (e : PlainTree) (inputs : List (List ℕ)) → IsAccepted wanted.words.source before e → HasInputs e inputs → unknown_in e inputs wanted ≡ None
+      → (o : Outcome) → WritesOnly (Draws e inputs certificate wanted) out_before out_after o → Tells o s report_before report_after
+      → ShowsMade wanted before certificate out_before out_after report_before report_after s
+  no_name : (e : PlainTree) (inputs : List (List ℕ)) → IsAccepted wanted.words.source before e → HasInputs e inputs → (name : List ℕ)
+      → unknown_in e inputs wanted ≡ Some name → out_after.bytes ≡ out_before.bytes → TellsLine (no_name_text name) status.Refused s report_before report_after
+      → ShowsMade wanted before certificate out_before out_after report_before report_after s
+  no_memory : out_after.bytes ≡ out_before.bytes → Tells (Err stop.NoMemory) s report_before report_after
+      → ShowsMade wanted before certificate out_before out_after report_before report_after s
+
+-- What comes of words that are read. A certificate is made as `lucid` makes it. Where none is, nothing is written, and the outcome of the making is
+-- told. Else the certificate is shown.
+pub record Shown (wanted : PlainWanted) (before after : World) (out_before out_after report_before report_after : Told) (s : Status) : Type 0 where
   pub made : Outcome
   pub certificate : List ℕ
   pub makes : MakesInMemory wanted.words before after certificate made
-  pub stopped : (why : Stop) → made ≡ Err why → (o ≡ Err why) × (out_after.bytes ≡ out_before.bytes)
-  pub shows : (done : Done) → made ≡ Ok done → WritesOnly (DrawsSource wanted before certificate) out_before out_after o
+  pub stopped : (why : Stop) → made ≡ Err why → (out_after.bytes ≡ out_before.bytes) × Tells (Err why) s report_before report_after
+  pub shows : (done : Done) → made ≡ Ok done → ShowsMade wanted before certificate out_before out_after report_before report_after s
 
 abbrev pub usage_text : List ℕ
-usage_text = codes "usage: lucid_show [--at T] [--as outline|grid|svg] [--depth N] [--names LIST] [--cells N] PROGRAM [NAME=FILE]...\n"
+usage_text = codes "usage: lucid_show [--at T] [--as outline|grid|svg] [--depth N] [--names LIST] [--cells N] PROGRAM [NAME=FILE]... | lucid_show --steps [--count N] [--policy keep|none|age|last] [--age K] [--room N] [--depth N] [--cells N] PROGRAM [NAME=FILE]...\n"
 
--- The usage of this command is told: by its status and its line; or by its status and a front of the line, where a write of the report failed; or
--- there was no memory to write the line.
+-- the usage of this command is told
 abbrev pub TellsUsage : Status → (before after : Told) → Type 0
-TellsUsage s before after =
-    ((s ≡ status.Usage) × WritesWhole usage_text before after)
-    ⊎ (((s ≡ status.Usage) × WritesFront usage_text before after × Rises before.faults after.faults)
-    ⊎ ((s ≡ status.NoMemory) × WritesFront usage_text before after))
+TellsUsage = TellsLine usage_text status.Usage
 
 -- why words weren't read
 abbrev pub TellsRefused : WordsRefusal → Status → (before after : Told) → Type 0
 TellsRefused refusal.Usage s before after = TellsUsage s before after
 TellsRefused refusal.NoMemory s before after = Tells (Err stop.NoMemory) s before after
 
--- A call of the command that shows. Words that are refused are told by the usage of this command; nothing is read then, and nothing is written. Else
--- an outcome comes of showing what they ask for, which is told as the command `lucid` tells it.
-pub data ShowsAsked (before after : World) (out_before out_after report_before report_after : Told) (s : Status) : (asked : Option PlainWanted) → Type 0 where
+-- A call of the command that shows. Words that are refused are told by the usage of this command, and options that don't go together by a line that
+-- tells so; nothing is read then, and nothing is written. Else what they ask for is shown, and told as the command `lucid` tells it.
+pub data ShowsAsked (files : Files) (before after : World) (out_before out_after report_before report_after : Told) (s : Status)
+    : (asked : Option PlainAsked) → Type 0 where
   refused : after ≡ before → out_after.bytes ≡ out_before.bytes → TellsUsage s report_before report_after
-      → ShowsAsked before after out_before out_after report_before report_after s None
-  shown : {wanted : PlainWanted} → (o : Outcome) → Shown wanted before after out_before out_after o → Tells o s report_before report_after
-      → ShowsAsked before after out_before out_after report_before report_after s (Some wanted)
-  no_memory : {asked : Option PlainWanted} → after ≡ before → out_after.bytes ≡ out_before.bytes → Tells (Err stop.NoMemory) s report_before report_after
-      → ShowsAsked before after out_before out_after report_before report_after s asked
+      → ShowsAsked files before after out_before out_after report_before report_after s None
+  misplaces : {line : List ℕ} → after ≡ before → out_after.bytes ≡ out_before.bytes → TellsLine line status.Usage s report_before report_after
+      → ShowsAsked files before after out_before out_after report_before report_after s (Some (misplaced line))
+  shown : {wanted : PlainWanted} → Shown wanted before after out_before out_after report_before report_after s
+      → ShowsAsked files before after out_before out_after report_before report_after s (Some (value wanted))
+  ran : {wanted : PlainSteps} → ShowsRun files wanted before after out_before out_after report_before report_after s
+      → ShowsAsked files before after out_before out_after report_before report_after s (Some (steps wanted))
+  no_memory : {asked : Option PlainAsked} → after ≡ before → out_after.bytes ≡ out_before.bytes → Tells (Err stop.NoMemory) s report_before report_after
+      → ShowsAsked files before after out_before out_after report_before report_after s asked
 
 -- A text is written, and nothing is read.
 pub record Says (text : List ℕ) (before after : World) (out_before out_after report_before report_after : Told) (s : Status) : Type 0 where
@@ -113,9 +143,9 @@ pub record Says (text : List ℕ) (before after : World) (out_before out_after r
   pub tells : Tells outcome s report_before report_after
 
 -- A text is said where one is asked for; else what is asked for is shown.
-abbrev pub SaysOrShows : (before after : World) (out_before out_after report_before report_after : Told) → Status → (text : Option (List ℕ))
-    → (asked : Option PlainWanted) → Type 0
-SaysOrShows before after out_before out_after report_before report_after s (Some text) asked =
+abbrev pub SaysOrShows : Files → (before after : World) (out_before out_after report_before report_after : Told) → Status → (text : Option (List ℕ))
+    → (asked : Option PlainAsked) → Type 0
+SaysOrShows files before after out_before out_after report_before report_after s (Some text) asked =
     Says text before after out_before out_after report_before report_after s
-SaysOrShows before after out_before out_after report_before report_after s None asked =
-    ShowsAsked before after out_before out_after report_before report_after s asked
+SaysOrShows files before after out_before out_after report_before report_after s None asked =
+    ShowsAsked files before after out_before out_after report_before report_after s asked

@@ -1,4 +1,4 @@
-//! The command that shows a demand: its words, and how what a value was computed from is shown.
+//! The command that shows a demand: its words, and how what a value was computed from is shown, or a run step by step.
 #![tactic(auto)]
 
 pub use crate::command::{lucid_show, lucid_show_from_arguments};
@@ -7,5 +7,9 @@ mod command;
 mod form;
 mod help;
 pub mod laws;
+mod line;
+mod named;
+mod run_words;
+mod running;
 mod showing;
 mod words;

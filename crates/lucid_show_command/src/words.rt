@@ -3,13 +3,13 @@ ghost use Rattle.std.specs.Prelude.{◌≡◌, ◌≢◌, false, ◌∷◌, ◌+
 ghost use Rattle.std.specs.String.{string_bytes};
 ghost use Rattle.clap.specs.Words.{all_of, app_of, first_of, found_of, kind_of, rows_of, rule_of};
 ghost use Rattle.lucid_words.specs.Asked.{plain_words};
-ghost use Rattle.lucid_words.specs.Command.{text_option, with_rules, positional_rules};
+ghost use Rattle.lucid_words.specs.Command.{flag, text_option, with_rules, positional_rules};
+ghost use Rattle.lucid_words.specs.Rows.{is_set};
 ghost use Rattle.lucid_words.specs.Plain.{Answers};
-ghost use Rattle.lucid_ports.specs.World.{World};
-ghost use Rattle.lucid_top.specs.Coming.{MayBegin};
-ghost use Rattle.lucid_show_command.specs.Words.{show_rules, show_command, depth_words, text_or, words_for, is_why, certificate_asked, list_words, names_in, names_asked, of_program, of_given, words_shown, asked, plain_wanted};
+ghost use Rattle.lucid_show_command.specs.Words.{show_rules, steps_rules, show_command, given_words, text_or, words_for, is_why, certificate_asked, list_words, names_in, names_asked, of_program, of_given, is_given, has_value_option, has_run_option, beside_text, alone_text, value_shown, steps_shown, words_shown, asked, MayCertify, MayMake, MayShow, plain_wanted, plain_asked};
 
 use crate::form::{Form, form_asked};
+use crate::run_words::{Steps, steps_given};
 use clap::error::ErrorKind;
 use clap::{Arg, ArgAction, ArgMatches, Command};
 use lucid_top::Task;
@@ -26,6 +26,23 @@ pub struct Wanted {
     pub form: Form,
 }
 
+/// What is asked for.
+#[derive(Drop)]
+pub enum Asked {
+    /// A value, by what it was computed from.
+    Value(Wanted),
+    /// A run, by its steps.
+    Steps(Steps),
+    /// Options that don't go together, by the line that tells so.
+    Misplaced(&'static [u8]),
+}
+
+const BESIDE: &[u8] =
+    b"usage: lucid_show --steps takes no --at, --as or --names: these are for one value\n";
+
+const ALONE: &[u8] =
+    b"usage: lucid_show takes --count, --policy, --age and --room with --steps alone\n";
+
 // An option with any text as its value. Its id is its name.
 fn text_option(alloc: Global, name: &'static str) -> Arg<'static>
     ensures rule { rule_of result ≡ text_option name.entry.now }
@@ -34,7 +51,15 @@ fn text_option(alloc: Global, name: &'static str) -> Arg<'static>
     Arg::new(alloc, name).long(name)
 }
 
-// Adds the options.
+// A flag.
+fn flag(alloc: Global, name: &'static str) -> Arg<'static>
+    ensures rule { rule_of result ≡ flag name.entry.now }
+    ensures local { result.global ≡ false }
+{
+    text_option(alloc, name).action(ArgAction::SetTrue)
+}
+
+// Adds the options of a value.
 fn with_options<'a>(alloc: Global, command: Command<'a>) -> Result<Command<'a>, AllocError>
     ensures { IfOk result (λ c. app_of c ≡ with_rules (app_of command.entry) show_rules) }
 {
@@ -44,6 +69,18 @@ fn with_options<'a>(alloc: Global, command: Command<'a>) -> Result<Command<'a>, 
         .arg(text_option(alloc, "depth"))?
         .arg(text_option(alloc, "names"))?
         .arg(text_option(alloc, "cells"))
+}
+
+// Adds `--steps` and the options of a run.
+fn with_steps<'a>(alloc: Global, command: Command<'a>) -> Result<Command<'a>, AllocError>
+    ensures { IfOk result (λ c. app_of c ≡ with_rules (app_of command.entry) steps_rules) }
+{
+    command
+        .arg(flag(alloc, "steps"))?
+        .arg(text_option(alloc, "count"))?
+        .arg(text_option(alloc, "policy"))?
+        .arg(text_option(alloc, "age"))?
+        .arg(text_option(alloc, "room"))
 }
 
 // Adds the program and the inputs.
@@ -64,6 +101,7 @@ fn show_command<'a>(alloc: Global) -> Result<Command<'a>, AllocError>
         .disable_help_flag(true)
         .disable_version_flag(true);
     let command = with_options(alloc, bare)?;
+    let command = with_steps(alloc, command)?;
     with_positionals(alloc, command)
 }
 
@@ -75,8 +113,8 @@ fn add_word(alloc: Global, words: &mut Vec<String>, word: &str) -> Result<(), Al
     Ok(())
 }
 
-// Adds two words.
-fn add_two(
+/// Adds two words.
+pub(crate) fn add_two(
     alloc: Global,
     words: &mut Vec<String>,
     first: &str,
@@ -98,15 +136,15 @@ fn add_words(alloc: Global, words: &mut Vec<String>, more: &[&str]) -> Result<()
     Ok(())
 }
 
-// The text of an option, where it is given.
-fn text_of<'a>(matches: &ArgMatches<'a>, name: &str) -> Option<&'a str>
+/// The text of an option, where it is given.
+pub(crate) fn text_of<'a>(matches: &ArgMatches<'a>, name: &str) -> Option<&'a str>
     ensures { option_map (λ text. text.now) result ≡ first_of name.now (rows_of (found_of matches.now)) }
 {
     matches.get_str(name)
 }
 
-// The text of an option, or its default.
-fn text_or<'a>(matches: &ArgMatches<'a>, name: &str, default: &'static str) -> &'a str
+/// The text of an option, or its default.
+pub(crate) fn text_or<'a>(matches: &ArgMatches<'a>, name: &str, default: &'static str) -> &'a str
     ensures { result.now ≡ text_or name.now default.entry.now (rows_of (found_of matches.now)) }
 {
     match matches.get_str(name) {
@@ -115,18 +153,43 @@ fn text_or<'a>(matches: &ArgMatches<'a>, name: &str, default: &'static str) -> &
     }
 }
 
-// Adds the words of the depth, where it is given.
-fn add_depth(alloc: Global, words: &mut Vec<String>, depth: Option<&str>) -> Result<(), AllocError>
-    ensures { OnOk result (map string_bytes words.new.items ≡ map string_bytes words.old.items ++ depth_words (option_map (λ text. text.now) depth.entry)) }
+// Whether an option is given.
+fn is_given(matches: &ArgMatches<'_>, name: &str) -> bool
+    ensures { result ≡ is_given name.now (rows_of (found_of matches.now)) }
 {
-    match depth {
-        Some(depth) => add_two(alloc, words, "--depth", depth),
+    match matches.get_str(name) {
+        Some(_) => true,
+        None => false,
+    }
+}
+
+// Whether a flag is set.
+fn is_set(matches: &ArgMatches<'_>, name: &str) -> bool
+    ensures { result ≡ is_set name.now (rows_of (found_of matches.now)) }
+{
+    match matches.get_str(name) {
+        Some(value) => value == "true",
+        None => false,
+    }
+}
+
+/// Adds a word and a value, where this is given.
+pub(crate) fn add_given(
+    alloc: Global,
+    words: &mut Vec<String>,
+    word: &str,
+    value: Option<&str>,
+) -> Result<(), AllocError>
+    ensures { OnOk result (map string_bytes words.new.items ≡ map string_bytes words.old.items ++ given_words word.now (option_map (λ text. text.now) value.entry)) }
+{
+    match value {
+        Some(value) => add_two(alloc, words, word, value),
         None => Ok(()),
     }
 }
 
-// Adds the inputs.
-fn add_inputs(
+/// Adds the inputs.
+pub(crate) fn add_inputs(
     alloc: Global,
     words: &mut Vec<String>,
     matches: &ArgMatches<'_>,
@@ -154,7 +217,7 @@ fn words_of(
     add_two(alloc, &mut words, "--why", at)?;
     let cells = text_or(matches, "cells", "2000");
     add_two(alloc, &mut words, "--count", cells)?;
-    add_depth(alloc, &mut words, text_of(matches, "depth"))?;
+    add_given(alloc, &mut words, "--depth", text_of(matches, "depth"))?;
     add_two(alloc, &mut words, "--", program)?;
     add_inputs(alloc, &mut words, matches)?;
     Ok(words)
@@ -174,7 +237,7 @@ fn is_why(task: Task) -> bool
 // The words, where they ask for a certificate.
 fn read_certificate(alloc: Global, texts: &[String]) -> Result<Words, WordsRefusal>
     ensures asked { Answers plain_words (certificate_asked (map string_bytes texts.now)) result }
-    ensures begins { IfOk result (λ words. (v : World) → v.reached ≡ 0 → MayBegin words Task.Why v) }
+    ensures begins { IfOk result MayCertify }
 {
     let words = read_words(alloc, texts)?;
     if !is_why(Task::of(&words)) {
@@ -190,7 +253,7 @@ fn read_program(
     program: &str,
 ) -> Result<Words, WordsRefusal>
     ensures asked { Answers plain_words (certificate_asked (words_for (rows_of (found_of matches.now)) program.now)) result }
-    ensures begins { IfOk result (λ words. (v : World) → v.reached ≡ 0 → MayBegin words Task.Why v) }
+    ensures begins { IfOk result MayCertify }
 {
     let texts = words_of(alloc, matches, program)?;
     read_certificate(alloc, &texts)
@@ -228,7 +291,7 @@ fn names_asked(alloc: Global, list: Option<&str>, program: &str) -> Result<Vec<N
 // What is asked for of a program.
 fn wanted_of(alloc: Global, matches: &ArgMatches<'_>, program: &str) -> Result<Wanted, WordsRefusal>
     ensures asked { Answers plain_wanted (of_program (rows_of (found_of matches.now)) program.now) result }
-    ensures begins { IfOk result (λ wanted. (v : World) → v.reached ≡ 0 → MayBegin wanted.words Task.Why v) }
+    ensures begins { IfOk result MayMake }
 {
     let words = read_program(alloc, matches, program)?;
     let names = names_asked(alloc, text_of(matches, "names"), program)?;
@@ -245,7 +308,7 @@ fn read_given(
     program: Option<&str>,
 ) -> Result<Wanted, WordsRefusal>
     ensures asked { Answers plain_wanted (of_given (rows_of (found_of matches.now)) (option_map (λ text. text.now) program.entry)) result }
-    ensures begins { IfOk result (λ wanted. (v : World) → v.reached ≡ 0 → MayBegin wanted.words Task.Why v) }
+    ensures begins { IfOk result MayMake }
 {
     match program {
         Some(program) => wanted_of(alloc, matches, program),
@@ -253,13 +316,57 @@ fn read_given(
     }
 }
 
-// What is asked for, from what `clap` found.
-fn asked_in(alloc: Global, matches: &ArgMatches<'_>) -> Result<Wanted, WordsRefusal>
-    ensures asked { Answers plain_wanted (words_shown (rows_of (found_of matches.now))) result }
-    ensures begins { IfOk result (λ wanted. (v : World) → v.reached ≡ 0 → MayBegin wanted.words Task.Why v) }
+// Whether an option of a value alone is given.
+fn has_value_option(matches: &ArgMatches<'_>) -> bool
+    ensures { result ≡ has_value_option (rows_of (found_of matches.now)) }
 {
-    let program = text_of(matches, "program");
-    read_given(alloc, matches, program)
+    is_given(matches, "at") || is_given(matches, "as") || is_given(matches, "names")
+}
+
+// Whether an option of a run alone is given.
+fn has_run_option(matches: &ArgMatches<'_>) -> bool
+    ensures { result ≡ has_run_option (rows_of (found_of matches.now)) }
+{
+    is_given(matches, "count")
+        || is_given(matches, "policy")
+        || is_given(matches, "age")
+        || is_given(matches, "room")
+}
+
+// What is asked for of a run, with `--steps`.
+fn steps_in(alloc: Global, matches: &ArgMatches<'_>) -> Result<Asked, WordsRefusal>
+    ensures asked { Answers plain_asked (steps_shown (rows_of (found_of matches.now))) result }
+    ensures begins { IfOk result MayShow }
+{
+    if has_value_option(matches) {
+        return Ok(Asked::Misplaced(BESIDE));
+    }
+    let steps = steps_given(alloc, matches, text_of(matches, "program"))?;
+    Ok(Asked::Steps(steps))
+}
+
+// What is asked for of a value, without it.
+fn value_in(alloc: Global, matches: &ArgMatches<'_>) -> Result<Asked, WordsRefusal>
+    ensures asked { Answers plain_asked (value_shown (rows_of (found_of matches.now))) result }
+    ensures begins { IfOk result MayShow }
+{
+    if has_run_option(matches) {
+        return Ok(Asked::Misplaced(ALONE));
+    }
+    let wanted = read_given(alloc, matches, text_of(matches, "program"))?;
+    Ok(Asked::Value(wanted))
+}
+
+// What is asked for, from what `clap` found.
+fn asked_in(alloc: Global, matches: &ArgMatches<'_>) -> Result<Asked, WordsRefusal>
+    ensures asked { Answers plain_asked (words_shown (rows_of (found_of matches.now))) result }
+    ensures begins { IfOk result MayShow }
+{
+    if is_set(matches, "steps") {
+        steps_in(alloc, matches)
+    } else {
+        value_in(alloc, matches)
+    }
 }
 
 // Whatever `clap` refuses but for want of memory is usage.
@@ -273,9 +380,9 @@ fn refusal_of(error: &clap::Error) -> WordsRefusal
 }
 
 /// Reads the words that follow the program's own name. The count of the words that make the certificate is how much is shown at most.
-pub(crate) fn read_asked(alloc: Global, words: &[String]) -> Result<Wanted, WordsRefusal>
-    ensures asked { Answers plain_wanted (asked (map string_bytes words.now)) result }
-    ensures begins { IfOk result (λ wanted. (v : World) → v.reached ≡ 0 → MayBegin wanted.words Task.Why v) }
+pub(crate) fn read_asked(alloc: Global, words: &[String]) -> Result<Asked, WordsRefusal>
+    ensures asked { Answers plain_asked (asked (map string_bytes words.now)) result }
+    ensures begins { IfOk result MayShow }
 {
     let command = show_command(alloc)?;
     match command.try_get_matches_from(words) {

@@ -1,0 +1,8 @@
+use Rattle.std.proofs.lemmas.Result.{err_from_is_err_and}
+use Rattle.lucid_show_steps.proofs.Refused.{text_refused}
+use Rattle.lucid_show_steps.proofs.names.places_in.Goals as goal
+
+pub returns-in_err-tree-clause-refused : goal.returns-in_err-tree-clause-refused
+returns-in_err-tree-clause-refused c =
+    let p = err_from_is_err_and c.from_residual.result c.from_residual.ensures.1 in
+    rw (p.1, p.2) (text_refused c.args.source.now c.in_err-tree.field-0.0 c.in_err-tree.ensures.refused)
