@@ -6,6 +6,8 @@ mod call;
 #[cfg(test)]
 mod errors;
 #[cfg(test)]
+mod hints;
+#[cfg(test)]
 mod hostile;
 #[cfg(test)]
 mod reports;

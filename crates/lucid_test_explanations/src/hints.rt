@@ -1,0 +1,578 @@
+//! The hints that end a report, over sources in memory: a row for each.
+use crate::call::plain_call;
+use std::alloc::{AllocError, Global};
+use std::test::Fail;
+
+// A source, how its report begins, and how it ends.
+#[derive(Clone, Copy)]
+struct Ends {
+    source: &'static [u8],
+    begin: &'static str,
+    end: &'static str,
+}
+
+// Tokens that go wrong, with the hint that ends the report.
+static HINTS: [Ends; 40] = [
+    Ends {
+        source: b"n = 0 fby n + 1;",
+        begin: "syntax at 2\n",
+        end: ".\nA program begins with an expression, and its definitions stand behind `where`: `n where n = 1; end`. To compare, write `eq`.\n",
+    },
+    Ends {
+        source: b"if x == 1 then 2 else 3 fi",
+        begin: "syntax at 5\n",
+        end: ".\nTo compare, write `eq`.\n",
+    },
+    Ends {
+        source: b"n => 3",
+        begin: "syntax at 2\n",
+        end: ".\nTo compare, write `>=`.\n",
+    },
+    Ends {
+        source: b"n =< 3",
+        begin: "syntax at 2\n",
+        end: ".\nTo compare, write `<=`.\n",
+    },
+    Ends {
+        source: b"k where k = current n; end",
+        begin: "syntax at 12\n",
+        end: ".\nWrite `k is current n;`, without `=`.\n",
+    },
+    Ends {
+        source: b"1 < n < 5",
+        begin: "syntax at 6\n",
+        end: ".\nComparisons don't chain: write `1 < n and n < 5`.\n",
+    },
+    Ends {
+        source: b"p eq not p",
+        begin: "syntax at 5\n",
+        end: ".\nHere `not` stands in parentheses, as in `a eq (not b)`.\n",
+    },
+    Ends {
+        source: b"1 if n < 3 else 2",
+        begin: "syntax at 2\n",
+        end: ".\nA choice is written `if .. then .. else .. fi`.\n",
+    },
+    Ends {
+        source: b"if a then 1 elif b then 2 else 3 fi",
+        begin: "syntax at 12\n",
+        end: ".\nWrite `else if .. then .. else .. fi fi`: each `if` ends with a `fi` of its own.\n",
+    },
+    Ends {
+        source: b"n where -- a clock\n n = 1; end",
+        begin: "syntax at 8\n",
+        end: ".\nA comment begins with `//`.\n",
+    },
+    Ends {
+        source: b"n where n = 0 fby n++; end",
+        begin: "syntax at 20\n",
+        end: ".\nThere is no `++`: write `n + 1`. Lists are joined by `<>`, and strings by `^`.\n",
+    },
+    Ends {
+        source: b"f() where f() = 3; end",
+        begin: "syntax at 2\n",
+        end: ".\nA function has one argument at least: what has none is a plain name, without parentheses.\n",
+    },
+    Ends {
+        source: b"n where n is 0 fby n + 1; end",
+        begin: "syntax at 13\n",
+        end: ".\nBehind `is` stands `current`: a definition is written with `=`.\n",
+    },
+    Ends {
+        source: b"f(1) where f(x) = return x * 2; end",
+        begin: "syntax at 25\n",
+        end: ".\nThere is no `return`: the right side of `=` is the value.\n",
+    },
+    Ends {
+        source: b"2n",
+        begin: "syntax at 1\n",
+        end: ".\nA product is written with `*`, as in `2 * n`. A number has digits alone.\n",
+    },
+    Ends {
+        source: b"where n = 1; end",
+        begin: "syntax at 0\n",
+        end: ".\nA program begins with an expression, and its definitions stand behind `where`: `n where n = 1; end`.\n",
+    },
+    Ends {
+        source: b"// clock\r1\r",
+        begin: "syntax at 11\n",
+        end: ".\nA comment goes on to a byte 10: here a byte 13 alone ends the lines.\n",
+    },
+    Ends {
+        source: b"n where n += 1; end",
+        begin: "syntax at 10\n",
+        end: ".\nA name is defined once, for all times: `n = 0 fby n + 1;`.\n",
+    },
+    Ends {
+        source: b"n where my-sum = 1; end",
+        begin: "syntax at 10\n",
+        end: ".\nA name has letters, digits and `_` alone.\n",
+    },
+    Ends {
+        source: b"n where let n = 1; end",
+        begin: "syntax at 12\n",
+        end: ".\nA definition begins with the name that it defines, and then `=`: `n = 1;`. Parameters stand in parentheses: `f(x) = x + 1;`.\n",
+    },
+    Ends {
+        source: b"f(1) where f(0) = 1; end",
+        begin: "syntax at 13\n",
+        end: ".\nA parameter is a name. A value that depends on it is written with `if`, and one at time 0 with `fby`.\n",
+    },
+    Ends {
+        source: b"length where length = 3; end",
+        begin: "syntax at 7\n",
+        end: ".\nThe word before this is an operator, behind which an expression stands. It is reserved: no name is spelled so.\n",
+    },
+    Ends {
+        source: b"1 where n = 1; end;",
+        begin: "syntax at 18\n",
+        end: ".\nBefore this the program is whole: leave out what stands behind.\n",
+    },
+    Ends {
+        source: b"1 where n = 1; end\n2",
+        begin: "syntax at 19\n",
+        end: ".\nBefore this the program is whole: leave out what stands behind.\n",
+    },
+    Ends {
+        source: b"(1))",
+        begin: "syntax at 3\n",
+        end: ".\nBefore this no `(` is open: leave it out.\n",
+    },
+    Ends {
+        source: b"x, y where x = 1; y = 2; end",
+        begin: "syntax at 1\n",
+        end: ".\nA program has one subject. Names of its block are written side by side by `--columns x,y`.\n",
+    },
+    Ends {
+        source: b"(1, 2)",
+        begin: "syntax at 2\n",
+        end: ".\nParentheses that are no call have one expression in them: a list is `x :: y :: []`. Reserved words, as `if` and `next`, are no functions.\n",
+    },
+    Ends {
+        source: b"f(1) where f(x = x; end",
+        begin: "syntax at 15\n",
+        end: ".\nA `(` stands open before this: its `)` is missing.\n",
+    },
+    Ends {
+        source: b"n where not = 1; end",
+        begin: "syntax at 8\n",
+        end: ".\nThis word is reserved: no name is spelled so.\n",
+    },
+    Ends {
+        source: b"f(1) where f(not) = 1; end",
+        begin: "syntax at 13\n",
+        end: ".\nThis word is reserved: no name is spelled so.\n",
+    },
+    Ends {
+        source: b"n where n = 3end",
+        begin: "syntax at 13\n",
+        end: ".\nEach definition ends with `;`, the last one before `end` too.\n",
+    },
+    Ends {
+        source: b"// clock\r\n",
+        begin: "syntax at 10\n",
+        end: ".\nA program begins with an expression, and its definitions stand behind `where`: `n where n = 1; end`.\n",
+    },
+    Ends {
+        source: b"n n = 1; end",
+        begin: "syntax at 2\n",
+        end: ".\nIs `where` missing before the definitions?\n",
+    },
+    Ends {
+        source: b"(n + 1 where n = 1; end",
+        begin: "syntax at 23\n",
+        end: ".\nA `(` stands open before this: its `)` is missing.\n",
+    },
+    Ends {
+        source: b"x + y where\n  x = 1\n  y = 2;\nend",
+        begin: "syntax at 22\n",
+        end: ".\nIs the `;` missing at the end of the line before?\n",
+    },
+    Ends {
+        source: b"h where\n  h = n // 2;\n  n = 1;\nend",
+        begin: "syntax at 24\n",
+        end: ".\nIs the `;` missing before the `//`? What stands behind that is a comment: whole division is `div`.\n",
+    },
+    Ends {
+        source: b"n\n  n = 1;\nend",
+        begin: "syntax at 4\n",
+        end: ".\nIs `where` missing before the definitions?\n",
+    },
+    Ends {
+        source: b"if n < 3 1 else 2 fi",
+        begin: "syntax at 9\n",
+        end: ".\nBehind the test of an `if` stands `then`.\n",
+    },
+    Ends {
+        source: b"square n where square(x) = x * x; end",
+        begin: "syntax at 7\n",
+        end: ".\nIs an operator or `where` missing before this? Arguments stand in parentheses, as in `f(x)`, and a string of words as `two words'.\n",
+    },
+    Ends {
+        source: b"x + y where x = y y = 2; end",
+        begin: "syntax at 18\n",
+        end: ".\nEach definition ends with `;`, the last one before `end` too.\n",
+    },
+];
+
+// More of them. (One test over all is too much for one check.)
+static MORE_HINTS: [Ends; 38] = [
+    Ends {
+        source: b"n Where n = 1; end",
+        begin: "syntax at 2\n",
+        end: ".\nReserved words are spelled in small letters, as `where` and `if`.\n",
+    },
+    Ends {
+        source: b"If n > 3 Then 1 Else 0 Fi",
+        begin: "syntax at 3\n",
+        end: ".\nReserved words are spelled in small letters, as `where` and `if`.\n",
+    },
+    Ends {
+        source: b"n; where n = 1; end",
+        begin: "syntax at 1\n",
+        end: ".\nBehind a definition alone stands `;`: leave it out.\n",
+    },
+    Ends {
+        source: b"n fi where n = 1; end",
+        begin: "syntax at 2\n",
+        end: ".\nBefore this no `if` is open: leave the `fi` out.\n",
+    },
+    Ends {
+        source: b"n end where n = 1; end",
+        begin: "syntax at 2\n",
+        end: ".\nBefore this no `where` is open: leave the `end` out.\n",
+    },
+    Ends {
+        source: b"n where n = 1; end + 1",
+        begin: "syntax at 19\n",
+        end: ".\nA block before an operator stands in parentheses: `(n where n = 1; end) + 1`.\n",
+    },
+    Ends {
+        source: b"x where x = y where y = 1; end fby 2; end",
+        begin: "syntax at 31\n",
+        end: ".\nA block before an operator stands in parentheses: `(n where n = 1; end) + 1`.\n",
+    },
+    Ends {
+        source: b"n where n = 1; end -- one",
+        begin: "syntax at 19\n",
+        end: ".\nA comment begins with `//`.\n",
+    },
+    Ends {
+        source: b"x + y where\n  x = 1 // one\n  y = 2;\nend",
+        begin: "syntax at 29\n",
+        end: ".\nIs the `;` missing before the `//`? What stands behind that is a comment: whole division is `div`.\n",
+    },
+    Ends {
+        source: b"y where y = x * x where x = 3; end",
+        begin: "syntax at 34\n",
+        end: ".\nEach `where` has an `end` of its own: one is missing. Behind the `end` of an inner block stands the `;` of its definition.\n",
+    },
+    Ends {
+        source: b"x where x = if true then 1 else 0 fi fi; end",
+        begin: "syntax at 37\n",
+        end: ".\nIn this definition no `if` is open: leave the `fi` out, or end the definition with `;`.\n",
+    },
+    Ends {
+        source: b"x where x = y = 0; end",
+        begin: "syntax at 14\n",
+        end: ".\nA definition has one `=`: to compare, write `eq`.\n",
+    },
+    Ends {
+        source: b"n where // one\r n = 1;\r end\r",
+        begin: "syntax at 28\n",
+        end: ".\nA comment goes on to a byte 10: here a byte 13 alone ends the lines.\n",
+    },
+    Ends {
+        source: b"n where n = 1; edn",
+        begin: "syntax at 18\n",
+        end: ".\nBehind `where` come the definitions, and then `end`.\n",
+    },
+    Ends {
+        source: b"n where n = 0 fby +1; end",
+        begin: "syntax at 18\n",
+        end: ".\nNo `+` stands before a number: write `1`.\n",
+    },
+    Ends {
+        source: b"fby(0, n)",
+        begin: "syntax at 0\n",
+        end: ".\nThis operator stands between two expressions, as `fby` in `0 fby n`.\n",
+    },
+    Ends {
+        source: b"let n = 1 in n",
+        begin: "syntax at 4\n",
+        end: ".\nThere is no `let`: definitions stand behind `where`, as in `n where n = 1; end`.\n",
+    },
+    Ends {
+        source: b"head [% 1 2 %]",
+        begin: "syntax at 5\n",
+        end: ".\nThe first item of a list l is `hd l`, and the others are `tl l`.\n",
+    },
+    Ends {
+        source: b"x is current n",
+        begin: "syntax at 2\n",
+        end: ".\n`k is current n;` defines a plain name, behind `where`.\n",
+    },
+    Ends {
+        source: b"f(2) where f(x) => x + 1; end",
+        begin: "syntax at 17\n",
+        end: ".\nA definition is written with `=` alone, as in `f(x) = x + 1;`.\n",
+    },
+    Ends {
+        source: b"n where n = 0 -> pre n + 1; end",
+        begin: "syntax at 15\n",
+        end: ".\nThere is no `->`: a function is written `f(x) = x + 1;`, and `0 fby n` is 0 and then n.\n",
+    },
+    Ends {
+        source: b"prev n where n = 1; end",
+        begin: "syntax at 5\n",
+        end: ".\nThe value of n one time before is `0 fby n`, which is 0 at first.\n",
+    },
+    Ends {
+        source: b"n not eq 3 where n = 1; end",
+        begin: "syntax at 2\n",
+        end: ".\nWhat differs is written with `ne`, as in `n ne 3`.\n",
+    },
+    Ends {
+        source: b"(* a clock *) n where n = 1; end",
+        begin: "syntax at 1\n",
+        end: ".\nA comment begins with `//`.\n",
+    },
+    Ends {
+        source: b"n where n == 1; end",
+        begin: "syntax at 11\n",
+        end: ".\nA definition has one `=`: to compare, write `eq`.\n",
+    },
+    Ends {
+        source: b"n where first n = 0; next n = n + 1; end",
+        begin: "syntax at 8\n",
+        end: ".\nA name is defined once, for all times: `n = 0 fby n + 1;`.\n",
+    },
+    Ends {
+        source: b"f(1 2) where f(x, y) = x + y; end",
+        begin: "syntax at 4\n",
+        end: ".\nIs a `,` or a `)` missing before this? A call is written `f(x, y)`.\n",
+    },
+    Ends {
+        source: b"n + where n = 1; end",
+        begin: "syntax at 4\n",
+        end: ".\nAn expression is missing before this.\n",
+    },
+    Ends {
+        source: b"1 +\n",
+        begin: "syntax at 4\n",
+        end: ".\nAn expression is missing before this.\n",
+    },
+    Ends {
+        source: b"80\n90\n",
+        begin: "syntax at 3\n",
+        end: ".\nTwo numbers stand here, and no operator between them. Values of an input stand in a file of their own: `NAME=FILE` behind the program.\n",
+    },
+    Ends {
+        source: b"n when n > 3 where n = 0 fby n + 1; end",
+        begin: "syntax at 2\n",
+        end: ".\nA condition on times stands behind `whenever`, as in `n whenever n > 3`, and definitions stand behind `where`.\n",
+    },
+    Ends {
+        source: b"if eod(n) then 1 else 2 fi",
+        begin: "syntax at 6\n",
+        end: ".\n`eod` and `error` are values: whether n is one of them is asked by `iseod n` and `iserror n`.\n",
+    },
+    Ends {
+        source: b"error(n)",
+        begin: "syntax at 5\n",
+        end: ".\n`eod` and `error` are values: whether n is one of them is asked by `iseod n` and `iserror n`.\n",
+    },
+    Ends {
+        source: b"f(1; 2) where f(x, y) = x + y; end",
+        begin: "syntax at 3\n",
+        end: ".\nA `(` stands open before this: its `)` is missing, or a `,` between two arguments, as in `f(x, y)`.\n",
+    },
+    Ends {
+        source: b"f(1, 2) where f(x; y) = x + y; end",
+        begin: "syntax at 17\n",
+        end: ".\nA `(` stands open before this: its `)` is missing, or a `,` between two arguments, as in `f(x, y)`.\n",
+    },
+    Ends {
+        source: b"x where x = if true then 1 2 fi; end",
+        begin: "syntax at 27\n",
+        end: ".\nIs `else` missing before this, or an operator? A choice is written `if .. then .. else .. fi`, and a call `f(x)`.\n",
+    },
+    Ends {
+        source: b"if true then 1 else 2 endif",
+        begin: "syntax at 22\n",
+        end: ".\nIs `fi` missing before this, or an operator? Each `if` ends with a `fi` of its own, and a call is written `f(x)`.\n",
+    },
+    Ends {
+        source: b"next 2 n where n = 0 fby n + 1; end",
+        begin: "syntax at 7\n",
+        end: ".\nIs an operator missing before this? A product is written `2 * n`, and the value of n two times later `next next n`.\n",
+    },
+];
+
+// Bytes that are no tokens, the same.
+static CHARACTERS: [Ends; 26] = [
+    Ends {
+        source: b"\xef\xbb\xbf1",
+        begin: "bad byte at 0\n",
+        end: "^\nA byte order mark stands here: save the file without it.\n",
+    },
+    Ends {
+        source: b"\xff\xfe1\x00",
+        begin: "bad byte at 0\n",
+        end: "^\nThis file is UTF-16: save it as ASCII or UTF-8.\n",
+    },
+    Ends {
+        source: b"1 +\xc2\xa02",
+        begin: "bad byte at 3\n",
+        end: "^\nA blank that doesn't break stands here: write a plain one.\n",
+    },
+    Ends {
+        source: b"\xe2\x80\x9cred\xe2\x80\x9d",
+        begin: "bad byte at 0\n",
+        end: "^\nHere stands a typographic quotation mark: a word stands between two plain \", as in \"red\".\n",
+    },
+    Ends {
+        source: b"\xe2\x80\x98two words\xe2\x80\x99",
+        begin: "bad byte at 0\n",
+        end: "^\nHere stands a typographic quotation mark: a string begins with a backquote and ends with a plain ', as `two words'.\n",
+    },
+    Ends {
+        source: b"n \xe2\x80\x93 1",
+        begin: "bad byte at 2\n",
+        end: "^\nHere stands a dash: minus is the plain `-`.\n",
+    },
+    Ends {
+        source: b"n \xe2\x89\xa4 3",
+        begin: "bad byte at 2\n",
+        end: "^\nWrite `<=`.\n",
+    },
+    Ends {
+        source: b"n \xe2\x89\xa0 3",
+        begin: "bad byte at 2\n",
+        end: "^\nWrite `ne`.\n",
+    },
+    Ends {
+        source: b"n \xc3\x97 3",
+        begin: "bad byte at 2\n",
+        end: "^\nA product is written with `*`.\n",
+    },
+    Ends {
+        source: b"n \xc3\xb7 3",
+        begin: "bad byte at 2\n",
+        end: "^\nWhole division is `div`, and what it leaves over is `mod`.\n",
+    },
+    Ends {
+        source: b"gr\xc3\xb6sse",
+        begin: "bad byte at 2\n",
+        end: "^\nOnly in comments may other bytes stand than printable ASCII, tabs and line ends. A name has the letters a to z and A to Z, digits and `_`.\n",
+    },
+    Ends {
+        source: b"x' where x' = 1; end",
+        begin: "bad byte at 1\n",
+        end: "^\nA name has letters, digits and `_` alone, and a string has no ' in it.\n",
+    },
+    Ends {
+        source: b"n[0]",
+        begin: "bad byte at 1\n",
+        end: "^\nThe value of n at time 2 is `n attime 2`, and item 2 of a list l, from 0, is `nth(l, 2)`.\n",
+    },
+    Ends {
+        source: b"n /= 3",
+        begin: "bad byte at 2\n",
+        end: "^\nWrite `ne`.\n",
+    },
+    Ends {
+        source: b"n `mod` 2",
+        begin: "open text at 2\n",
+        end: "^\nAn operator stands without quotation marks, as in `n mod 2`.\n",
+    },
+    Ends {
+        source: b"f(3) where f = \\x; end",
+        begin: "bad byte at 15\n",
+        end: "^\nA function is written with a name, as `f(x) = x + 1;`.\n",
+    },
+    Ends {
+        source: b"$n",
+        begin: "bad byte at 0\n",
+        end: "^\nA name begins with a letter, and has letters, digits and `_` alone.\n",
+    },
+    Ends {
+        source: b"1_000",
+        begin: "bad byte at 1\n",
+        end: "^\nA name begins with a letter, and a number has digits alone.\n",
+    },
+    Ends {
+        source: b"\"a\" & \"b\"",
+        begin: "bad byte at 4\n",
+        end: "^\nWrite `and`, and to join strings `^`.\n",
+    },
+    Ends {
+        source: b"a | b",
+        begin: "bad byte at 2\n",
+        end: "^\nWrite `or`. Cases are told apart by `if .. then .. else .. fi`.\n",
+    },
+    Ends {
+        source: b"n where n := 1; end",
+        begin: "bad byte at 10\n",
+        end: "^\nA definition is written with `=`, as `n = 0 fby n + 1;` or `f(x) = x + 1;`, and `::` puts a value in front of a list. Behind a test stands `then`.\n",
+    },
+    Ends {
+        source: b"\x00n\x00 ",
+        begin: "bad byte at 0\n",
+        end: "^\nA byte 0 stands here: the file may be UTF-16, or no text. Save it as ASCII or UTF-8.\n",
+    },
+    Ends {
+        source: b"1 + 'dog'",
+        begin: "bad byte at 4\n",
+        end: "^\nA string begins with a backquote and ends with ' in one line, as `two words'. It has printable ASCII alone, without these two.\n",
+    },
+    Ends {
+        source: b"n.next where n = 0 fby n + 1; end",
+        begin: "bad byte at 1\n",
+        end: "^\nNo `.` stands outside comments and strings: operators and functions stand before what they take, as in `next n` and `f(n)`.\n",
+    },
+    Ends {
+        source: b"n where n = x.5; end",
+        begin: "bad byte at 13\n",
+        end: "^\nThere are no real numbers: write integers.\n",
+    },
+    Ends {
+        source: b"n where n = (1 + 2]; end",
+        begin: "bad byte at 18\n",
+        end: "^\nBefore this no list is open: a `(` ends with `)`, and a list of constants with `%]`.\n",
+    },
+];
+
+// Whether a report begins and ends so.
+fn has_ends(report: &[u8], row: &Ends) -> bool {
+    report.starts_with(row.begin.as_bytes()) && report.ends_with(row.end.as_bytes())
+}
+
+fn ends_so(alloc: Global, row: &Ends) -> Result<bool, AllocError> {
+    let answer = plain_call(alloc, "p", row.source)?;
+    Ok(has_ends(answer.report.written(), row))
+}
+
+fn each_ends(alloc: Global, rows: &[Ends]) -> Result<(), Fail> {
+    for row in rows {
+        if !ends_so(alloc, row)? {
+            return Err(Fail::new(format_args!("{:?} {}", row.source, row.end)));
+        }
+    }
+    Ok(())
+}
+
+#[test]
+fn hints_are_given(rt: HostRuntime) -> Result<(), Fail> {
+    each_ends(rt.alloc(), &HINTS)
+}
+
+#[test]
+fn more_hints_are_given(rt: HostRuntime) -> Result<(), Fail> {
+    each_ends(rt.alloc(), &MORE_HINTS)
+}
+
+#[test]
+fn characters_are_told(rt: HostRuntime) -> Result<(), Fail> {
+    each_ends(rt.alloc(), &CHARACTERS)
+}
