@@ -149,7 +149,7 @@ f         0    1    1    .    3
 g         1    1    2    3    .
 """)
     run.source("n asa n > 1 where n = 0 fby n + 1; end\n")
-    run.lucid("p", "--as", "grid", "--at", "0").must("""output at 0 is 2   = n > 1 is false at 0 to 1, true at 2, so n at 2
+    run.showing().lucid("p", "--as", "grid", "--at", "0").must("""output at 0 is 2   = n > 1 is false at 0 to 1, true at 2, so n at 2
 
 [program]
 time         0      1      2

@@ -257,7 +257,7 @@ def refusals_are_those_of_the_command(run):
     for words, status in ((["deep"], 5), (["missing"], 3), (["deep", "y=f"], 2)):
         told = run.lucid("--why", "4", *words).must("", status)
         run.showing().lucid(*words).must("", status, told.report.decode())
-    for words in ([], ["--names", "x,", "deep"], ["--as", "other", "deep"], ["--at", "x", "deep"], ["deep", "deep"], ["--count", "3", "deep"]):
+    for words in ([], ["--names", "x,", "deep"], ["--as", "other", "deep"], ["--at", "x", "deep"], ["deep", "deep"], ["--steps"]):
         run.showing().lucid(*words).must("", 2, USAGE)
 
 

@@ -13,10 +13,10 @@ asks for the value at 1
   computes f at 1: 1
 writes 1   (3 computed, 0 found)
 """
-# of the two sides of `+` the right one is looked for first
+# of the two sides of `+` the left one is looked for first
 KEPT = FIRST + """asks for the value at 2
-  finds g at 0: 1
   finds f at 0: 0
+  finds g at 0: 1
   computes g at 1: 1
 writes 1   (4 computed, 2 found)
 """ + UNSEEN
@@ -89,7 +89,8 @@ def a_call_has_a_context(run):
     run.showing().lucid("--steps", "--count=1", "p").must("""asks for the value at 0
   computes x at 0 in context 1: 3
   computes again x at 0 in context 1: 3
-writes 6   (2 computed, 0 found)
+  computes twice at 0 in context 1: 6
+writes 6   (3 computed, 0 found)
 """ + UNSEEN)
 
 
@@ -151,8 +152,8 @@ writes 0   (1 computed, 1 found)
 @case
 def the_lines_are_those_of_the_run(run):
     run.source(FIB, "fib")
-    run.source("n where n = 0 fby fact(n) + 1; fact(x) = if x lt 2 then 1 else x * fact(x - 1) fi; end", "calls")
-    run.source("a where n = 0 fby n + 1; a = b asa b gt 3 where m is current n; b = m fby b + 1; end; end", "nested")
+    run.source("n where n = 0 fby fact(n) + 1; fact(x) = if x < 2 then 1 else x * fact(x - 1) fi; end", "calls")
+    run.source("a where n = 0 fby n + 1; a = b asa b > 3 where m is current n; b = m fby b + 1; end; end", "nested")
     for program in ["fib", "calls", "nested"]:
         for policy in ["keep", "last", "age", "none"]:
             words = [f"--policy={policy}", "--room=3", "--age=1", "--count=5", program]
@@ -182,6 +183,7 @@ def options_that_do_not_go_together(run):
         run.showing().lucid("--steps", *words, "p").must("", 2, BESIDE)
     for words in [["--count", "1"], ["--policy=keep"], ["--age", "1"], ["--room=1"], ["--at=1", "--count=1"]]:
         run.showing().lucid(*words, "p").must("", 2, ALONE)
-    for words in [["--steps"], ["--steps", "--count=0", "p"], ["--steps", "--policy=most", "p"], ["--steps", "--cells=0", "p"],
-                  ["--steps", "--steps", "p"], ["--steps=1", "p"], ["--steps", "--print", "p"], ["--steps", "--stats", "p"], ["--steps", "--room", "x", "p"]]:
-        run.showing().lucid(*words).must("", 2, USAGE)
+    for words in [["--count=0"], ["--policy=most"], ["--cells=0"], ["--room", "x"], ["--steps"], ["--print"], ["--stats"]]:
+        run.showing().lucid("--steps", *words, "p").must("", 2, USAGE)
+    run.showing().lucid("--steps").must("", 2, USAGE)
+    run.showing().lucid("--steps=1", "p").must("", 2, USAGE)
