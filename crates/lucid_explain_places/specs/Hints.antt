@@ -87,7 +87,7 @@ is_behind_parameter those = has (codes ")") those && not (has (codes "+") those)
 -- a parenthesis that is open
 abbrev pub open_hint : (read : List ℕ) → List ℕ
 open_hint read =
-    if same_bytes read (codes ",") then codes "Parentheses that are no call have one expression in them: a list is `x :: y :: []`. Reserved words, as `if` and `next`, are no functions.\n"
+    if same_bytes read (codes ",") then codes "Parentheses that are no call have one expression in them: a list is `x :: y :: []`. Reserved words, as `if` and `next`, are no functions: a choice is written `if .. then .. else .. fi`.\n"
     else codes "A `(` stands open before this: its `)` is missing.\n"
 
 -- what ends nothing, where the program may end
@@ -111,17 +111,19 @@ alone_hint read those =
 -- of a `=`
 unfoldable pub equals_hint : PlainAround → List Candidate → List ℕ
 equals_hint a those =
-    if same_bytes a.after (codes ">") then codes "To compare, write `>=`.\n"
+    if length a.before == 0 then codes "A program begins with an expression, and no `=` stands before it.\n"
+    else if same_bytes a.after (codes ">") then codes "To compare, write `>=`.\n"
     else if same_bytes a.after (codes "<") then codes "To compare, write `<=`.\n"
     else if same_bytes a.after (codes "=") then codes "To compare, write `eq`.\n"
     else if same_bytes a.before (codes "=") then codes "A definition has one `=`: to compare, write `eq`.\n"
     else alone_hint a.read those
 
 -- in a definition
-abbrev pub definition_hint : (read : List ℕ) → List Candidate → List ℕ
+unfoldable pub definition_hint : (read : List ℕ) → List Candidate → List ℕ
 definition_hint read those =
     if has (codes ";") those then codes "Each definition ends with `;`, the last one before `end` too.\n"
     else if is_closing read && has (codes "end") those then codes "Behind `where` come the definitions, and then `end`.\n"
+    else if reads read (codes "where") (codes "end") those then codes "One `where` stands before all definitions of a block, and before the `where` of an inner block stands no `;`.\n"
     else if has (codes "end") those && is_reserved read then codes "This word is reserved: no name is spelled so.\n"
     else if has (codes "1") those then codes "An expression is missing before this.\n"
     else []
@@ -194,15 +196,36 @@ inner_hint a those =
     else if same_bytes a.read (codes "fi") && has (codes ";") those then codes "In this definition no `if` is open: leave the `fi` out, or end the definition with `;`.\n"
     else definition_hint a.read those
 
+-- a `;` before `else` or `fi`
+abbrev pub is_parted : PlainAround → Bool
+is_parted a = same_bytes a.read (codes ";") && (same_bytes a.after (codes "else") || same_bytes a.after (codes "fi"))
+
+-- a comma between two numbers
+abbrev pub is_listed : PlainAround → Bool
+is_listed a = same_bytes a.read (codes ",") && begins_with is_ascii_digit a.before && begins_with is_ascii_digit a.after
+
+-- of a `fi` that lacks
+abbrev pub last_hint : (before : List ℕ) → List ℕ
+last_hint before =
+    if same_bytes before (codes "end") then codes "Each `if` ends with a `fi` of its own. A `where` between an `if` and its `fi` defines names for the part alone in which it stands.\n"
+    else codes "Each `if` ends with a `fi` of its own.\n"
+
+-- where an expression ends, and no `if` is open
+unfoldable pub ending_hint : PlainAround → List Candidate → List ℕ
+ending_hint a those =
+    if reads a.read (codes ";") (codes ",") those then codes "A `(` stands open before this: its `)` is missing, or a `,` between two arguments, as in `f(x, y)`.\n"
+    else if has (codes ")") those then open_hint a.read
+    else if is_listed a then codes "No `,` stands here between numbers: there are no real numbers, a stream is `1 fby 2 fby 3`, and a list `[% 1 2 3 %]`.\n"
+    else if is_whole those then whole_hint a
+    else inner_hint a those
+
 -- where an expression ends that may not end there, or the program goes on that may end
 abbrev pub closing_hint : PlainAround → List Candidate → List ℕ
 closing_hint a those =
-    if has (codes "fi") those then codes "Each `if` ends with a `fi` of its own.\n"
-    else if has (codes "else") those then codes "An `if` has an `else`, and ends with `fi`.\n"
-    else if reads a.read (codes ";") (codes ",") those then codes "A `(` stands open before this: its `)` is missing, or a `,` between two arguments, as in `f(x, y)`.\n"
-    else if has (codes ")") those then open_hint a.read
-    else if is_whole those then whole_hint a
-    else inner_hint a those
+    if is_parted a then codes "Before `else` and `fi` stands no `;`.\n"
+    else if has (codes "fi") those then last_hint a.before
+    else if has (codes "else") those then codes "An `if` has an `else`, and ends with `fi`. To keep some values alone, write `n whenever n > 3`.\n"
+    else ending_hint a those
 
 abbrev pub end_hint : PlainAround → List Candidate → List ℕ
 end_hint a those =
@@ -211,10 +234,11 @@ end_hint a those =
     else lacking_hint a those
 
 -- behind the name of a definition
-abbrev pub head_hint : PlainAround → List ℕ
+unfoldable pub head_hint : PlainAround → List ℕ
 head_hint a =
     if is_step a.read && same_bytes a.after (codes "=") then codes "A name is defined once, for all times: `n = 0 fby n + 1;`.\n"
     else if same_bytes a.read (codes "-") then codes "A name has letters, digits and `_` alone.\n"
+    else if same_bytes a.read (codes "::") then codes "Kinds of values aren't declared: behind the name stands `=`, and then what it is.\n"
     else if length a.read == 0 then codes "Behind `where` come the definitions, and then `end`.\n"
     else codes "A definition begins with the name that it defines, and then `=`: `n = 1;`. Parameters stand in parentheses: `f(x) = x + 1;`.\n"
 
@@ -225,7 +249,7 @@ is_parameter those = has (codes "x") those && not (has (codes "1") those || has 
 abbrev pub parameter_hint : (read : List ℕ) → List ℕ
 parameter_hint read =
     if is_reserved read then codes "This word is reserved: no name is spelled so.\n"
-    else codes "A parameter is a name. A value that depends on it is written with `if`, and one at time 0 with `fby`.\n"
+    else codes "A parameter is a name. What depends on it is written with `if`; a stream that begins with 0 is `n = 0 fby n + 1;`, without parentheses.\n"
 
 -- an operator that stands between two expressions, as `+` and `fby`
 abbrev pub is_between : Option Form → Bool
@@ -241,11 +265,17 @@ stands_between (Some operator) = is_between (row_of operator).form
 abbrev pub is_infix : List ℕ → Bool
 is_infix read = stands_between (spelled read)
 
+-- of the first token, or where there is none
+abbrev pub first_hint : (read : List ℕ) → List ℕ
+first_hint read =
+    if length read == 0 then codes "The program has no token: it is empty, or has blanks and comments alone. Is its file saved?\n"
+    else codes "A program begins with an expression, and its definitions stand behind `where`: `n where n = 1; end`.\n"
+
 -- by where the place stands
 unfoldable pub place_hint : PlainAround → List Candidate → List ℕ
 place_hint a those =
     if has (codes "1") those && is_infix a.read then codes "This operator stands between two expressions, as `fby` in `0 fby n`.\n"
-    else if length a.before == 0 then codes "A program begins with an expression, and its definitions stand behind `where`: `n where n = 1; end`.\n"
+    else if length a.before == 0 then first_hint a.read
     else if has (codes "is") those then head_hint a
     else if is_parameter those then parameter_hint a.read
     else end_hint a those
@@ -268,13 +298,28 @@ foreign_hint a those =
     else if is_moment a those then codes "A name is defined once, for all times: `n = 0 fby n + 1;`.\n"
     else place_hint a those
 
+-- how other languages begin a loop
+abbrev pub is_loop : (before : List ℕ) → Bool
+is_loop before = same_bytes before (codes "for") || same_bytes before (codes "while")
+
+-- how `fby` is read aloud
+abbrev pub is_followed : PlainAround → Bool
+is_followed a = same_bytes a.read (codes "followed") && same_bytes a.after (codes "by")
+
+-- words of a text, where an operator lacks
+unfoldable pub spoken_hint : PlainAround → List Candidate → List ℕ
+spoken_hint a those =
+    if is_followed a then codes "`followed by` is written `fby`, as in `0 fby n`.\n"
+    else if has (codes "where") those && is_loop a.before then codes "There are no loops: `n = 0 fby n + 1;` defines the values of all times, and --count N says how many are written.\n"
+    else foreign_hint a those
+
 -- by the token before
 abbrev pub behind_hint : PlainAround → List Candidate → List ℕ
 behind_hint a those =
     if same_bytes a.before (codes "is") then codes "Behind `is` stands `current`: a definition is written with `=`.\n"
     else if same_bytes a.before (codes "return") then codes "There is no `return`: the right side of `=` is the value.\n"
     else if is_product a then codes "A product is written with `*`, as in `2 * n`. A number has digits alone.\n"
-    else foreign_hint a those
+    else spoken_hint a those
 
 -- an operator behind a block
 abbrev pub is_behind_block : PlainAround → Bool
@@ -344,7 +389,7 @@ is_cut_off a = length a.read == 0 && is_swallowed a.gap
 
 abbrev pub token_hint : PlainAround → List Candidate → List ℕ
 token_hint a those =
-    if is_cut_off a then codes "A comment goes on to a byte 10: here a byte 13 alone ends the lines.\n"
+    if is_cut_off a then codes "Here lines end with a carriage return (byte 13) alone, and a comment goes on past it: save the file with line ends of Unix (LF).\n"
     else if same_bytes a.read (codes "=") then equals_hint a those
     else if is_frozen a.read then frozen_hint a.read
     else operator_hint a those

@@ -2,7 +2,7 @@
 ghost use Rattle.std.specs.Prelude.{◌≡◌, ◌==◌, ℕ, ◌||◌, IfOk};
 ghost use Rattle.std.specs.Char.{is_ascii_alphabetic, is_ascii_digit};
 ghost use Rattle.lucid_explain_places.specs.Around.{plain_around};
-ghost use Rattle.lucid_explain_places.specs.Hints.{has, is_open, is_whole, is_closing, is_comparison, is_elif, is_step, is_part_word, lacks_operand, is_capital, begins_with, is_product, breaks_line, has_return, has_comment, is_swallowed, is_behind_parameter, open_hint, whole_hint, alone_hint, equals_hint, line_hint, is_argument, definition_hint, is_values, is_ended, is_defining, is_asked, is_factor, missing_hint, part_hint, lacking_hint, is_inner, inner_hint, closing_hint, end_hint, head_hint, is_parameter, parameter_hint, is_between, is_infix, place_hint, is_previous, is_moment, foreign_hint, behind_hint, reads, is_behind_block, are_both, arrow_hint, pair_hint, continues, is_dashed, is_remark, chains, word_hint, operator_hint, is_frozen, frozen_hint, is_cut_off, token_hint, hint};
+ghost use Rattle.lucid_explain_places.specs.Hints.{has, is_open, is_whole, is_closing, is_comparison, is_elif, is_step, is_part_word, lacks_operand, is_capital, begins_with, is_product, breaks_line, has_return, has_comment, is_swallowed, is_behind_parameter, open_hint, whole_hint, alone_hint, equals_hint, line_hint, is_argument, definition_hint, is_values, is_ended, is_defining, is_asked, is_factor, missing_hint, part_hint, lacking_hint, is_inner, inner_hint, is_parted, is_listed, last_hint, ending_hint, closing_hint, end_hint, head_hint, is_parameter, parameter_hint, is_between, is_infix, first_hint, place_hint, is_previous, is_moment, foreign_hint, is_loop, is_followed, spoken_hint, behind_hint, reads, is_behind_block, are_both, arrow_hint, pair_hint, continues, is_dashed, is_remark, chains, word_hint, operator_hint, is_frozen, frozen_hint, is_cut_off, token_hint, hint};
 
 use crate::around::Around;
 use crate::candidates::Candidate;
@@ -167,7 +167,7 @@ fn open_hint(read: &[u8]) -> &'static [u8]
     ensures { result.now ≡ open_hint read.now }
 {
     if read == b",".as_slice() {
-        b"Parentheses that are no call have one expression in them: a list is `x :: y :: []`. Reserved words, as `if` and `next`, are no functions.\n"
+        b"Parentheses that are no call have one expression in them: a list is `x :: y :: []`. Reserved words, as `if` and `next`, are no functions: a choice is written `if .. then .. else .. fi`.\n"
     } else {
         b"A `(` stands open before this: its `)` is missing.\n"
     }
@@ -212,7 +212,9 @@ fn alone_hint(read: &[u8], those: &[Candidate]) -> &'static [u8]
 fn equals_hint(around: &Around<'_>, those: &[Candidate]) -> &'static [u8]
     ensures { result.now ≡ equals_hint (plain_around around.now) those.now }
 {
-    if around.after == b">".as_slice() {
+    if around.before.is_empty() {
+        b"A program begins with an expression, and no `=` stands before it.\n"
+    } else if around.after == b">".as_slice() {
         b"To compare, write `>=`.\n"
     } else if around.after == b"<".as_slice() {
         b"To compare, write `<=`.\n"
@@ -226,6 +228,7 @@ fn equals_hint(around: &Around<'_>, those: &[Candidate]) -> &'static [u8]
 }
 
 // A hint in a definition.
+#[tactic(auto, unfolding(crate::specs::Hints::definition_hint))]
 fn definition_hint(read: &[u8], those: &[Candidate]) -> &'static [u8]
     ensures { result.now ≡ definition_hint read.now those.now }
 {
@@ -233,6 +236,8 @@ fn definition_hint(read: &[u8], those: &[Candidate]) -> &'static [u8]
         b"Each definition ends with `;`, the last one before `end` too.\n"
     } else if is_closing(read) && has(b"end", those) {
         b"Behind `where` come the definitions, and then `end`.\n"
+    } else if reads(read, b"where", b"end", those) {
+        b"One `where` stands before all definitions of a block, and before the `where` of an inner block stands no `;`.\n"
     } else if has(b"end", those) && is_reserved(read) {
         b"This word is reserved: no name is spelled so.\n"
     } else if has(b"1", those) {
@@ -369,22 +374,62 @@ fn inner_hint(around: &Around<'_>, those: &[Candidate]) -> &'static [u8]
     }
 }
 
-// A hint where an expression ends that may not end there, or the program goes on that may end.
-fn closing_hint(around: &Around<'_>, those: &[Candidate]) -> &'static [u8]
-    ensures { result.now ≡ closing_hint (plain_around around.now) those.now }
+// Whether a `;` stands before `else` or `fi`.
+fn is_parted(around: &Around<'_>) -> bool
+    ensures { result ≡ is_parted (plain_around around.now) }
 {
-    if has(b"fi", those) {
+    around.read == b";".as_slice()
+        && (around.after == b"else".as_slice() || around.after == b"fi".as_slice())
+}
+
+// Whether a comma stands between two numbers.
+fn is_listed(around: &Around<'_>) -> bool
+    ensures { result ≡ is_listed (plain_around around.now) }
+{
+    around.read == b",".as_slice() && begins_number(around.before) && begins_number(around.after)
+}
+
+// A hint at a `fi` that lacks.
+fn last_hint(before: &[u8]) -> &'static [u8]
+    ensures { result.now ≡ last_hint before.now }
+{
+    if before == b"end".as_slice() {
+        b"Each `if` ends with a `fi` of its own. A `where` between an `if` and its `fi` defines names for the part alone in which it stands.\n"
+    } else {
         b"Each `if` ends with a `fi` of its own.\n"
-    } else if has(b"else", those) {
-        b"An `if` has an `else`, and ends with `fi`.\n"
-    } else if reads(around.read, b";", b",", those) {
+    }
+}
+
+// A hint where an expression ends, and no `if` is open.
+#[tactic(auto, unfolding(crate::specs::Hints::ending_hint))]
+fn ending_hint(around: &Around<'_>, those: &[Candidate]) -> &'static [u8]
+    ensures { result.now ≡ ending_hint (plain_around around.now) those.now }
+{
+    if reads(around.read, b";", b",", those) {
         b"A `(` stands open before this: its `)` is missing, or a `,` between two arguments, as in `f(x, y)`.\n"
     } else if has(b")", those) {
         open_hint(around.read)
+    } else if is_listed(around) {
+        b"No `,` stands here between numbers: there are no real numbers, a stream is `1 fby 2 fby 3`, and a list `[% 1 2 3 %]`.\n"
     } else if is_whole(those) {
         whole_hint(around)
     } else {
         inner_hint(around, those)
+    }
+}
+
+// A hint where an expression ends that may not end there, or the program goes on that may end.
+fn closing_hint(around: &Around<'_>, those: &[Candidate]) -> &'static [u8]
+    ensures { result.now ≡ closing_hint (plain_around around.now) those.now }
+{
+    if is_parted(around) {
+        b"Before `else` and `fi` stands no `;`.\n"
+    } else if has(b"fi", those) {
+        last_hint(around.before)
+    } else if has(b"else", those) {
+        b"An `if` has an `else`, and ends with `fi`. To keep some values alone, write `n whenever n > 3`.\n"
+    } else {
+        ending_hint(around, those)
     }
 }
 
@@ -402,6 +447,7 @@ fn end_hint(around: &Around<'_>, those: &[Candidate]) -> &'static [u8]
 }
 
 // A hint behind the name of a definition.
+#[tactic(auto, unfolding(crate::specs::Hints::head_hint))]
 fn head_hint(around: &Around<'_>) -> &'static [u8]
     ensures { result.now ≡ head_hint (plain_around around.now) }
 {
@@ -409,6 +455,8 @@ fn head_hint(around: &Around<'_>) -> &'static [u8]
         b"A name is defined once, for all times: `n = 0 fby n + 1;`.\n"
     } else if around.read == b"-".as_slice() {
         b"A name has letters, digits and `_` alone.\n"
+    } else if around.read == b"::".as_slice() {
+        b"Kinds of values aren't declared: behind the name stands `=`, and then what it is.\n"
     } else if around.read.is_empty() {
         b"Behind `where` come the definitions, and then `end`.\n"
     } else {
@@ -430,7 +478,7 @@ fn parameter_hint(read: &[u8]) -> &'static [u8]
     if is_reserved(read) {
         b"This word is reserved: no name is spelled so.\n"
     } else {
-        b"A parameter is a name. A value that depends on it is written with `if`, and one at time 0 with `fby`.\n"
+        b"A parameter is a name. What depends on it is written with `if`; a stream that begins with 0 is `n = 0 fby n + 1;`, without parentheses.\n"
     }
 }
 
@@ -454,6 +502,17 @@ fn is_infix(read: &[u8]) -> bool
     }
 }
 
+// A hint at the first token, or where there is none.
+fn first_hint(read: &[u8]) -> &'static [u8]
+    ensures { result.now ≡ first_hint read.now }
+{
+    if read.is_empty() {
+        b"The program has no token: it is empty, or has blanks and comments alone. Is its file saved?\n"
+    } else {
+        b"A program begins with an expression, and its definitions stand behind `where`: `n where n = 1; end`.\n"
+    }
+}
+
 // A hint by where the place stands.
 #[tactic(auto, unfolding(crate::specs::Hints::place_hint))]
 fn place_hint(around: &Around<'_>, those: &[Candidate]) -> &'static [u8]
@@ -462,7 +521,7 @@ fn place_hint(around: &Around<'_>, those: &[Candidate]) -> &'static [u8]
     if has(b"1", those) && is_infix(around.read) {
         b"This operator stands between two expressions, as `fby` in `0 fby n`.\n"
     } else if around.before.is_empty() {
-        b"A program begins with an expression, and its definitions stand behind `where`: `n where n = 1; end`.\n"
+        first_hint(around.read)
     } else if has(b"is", those) {
         head_hint(around)
     } else if is_parameter(those) {
@@ -505,6 +564,34 @@ fn foreign_hint(around: &Around<'_>, those: &[Candidate]) -> &'static [u8]
     }
 }
 
+// Whether other languages begin a loop so.
+fn is_loop(before: &[u8]) -> bool
+    ensures { result ≡ is_loop before.now }
+{
+    before == b"for".as_slice() || before == b"while".as_slice()
+}
+
+// Whether this is how `fby` is read aloud.
+fn is_followed(around: &Around<'_>) -> bool
+    ensures { result ≡ is_followed (plain_around around.now) }
+{
+    around.read == b"followed".as_slice() && around.after == b"by".as_slice()
+}
+
+// A hint at words of a text, where an operator lacks.
+#[tactic(auto, unfolding(crate::specs::Hints::spoken_hint))]
+fn spoken_hint(around: &Around<'_>, those: &[Candidate]) -> &'static [u8]
+    ensures { result.now ≡ spoken_hint (plain_around around.now) those.now }
+{
+    if is_followed(around) {
+        b"`followed by` is written `fby`, as in `0 fby n`.\n"
+    } else if has(b"where", those) && is_loop(around.before) {
+        b"There are no loops: `n = 0 fby n + 1;` defines the values of all times, and --count N says how many are written.\n"
+    } else {
+        foreign_hint(around, those)
+    }
+}
+
 // A hint by the token before.
 fn behind_hint(around: &Around<'_>, those: &[Candidate]) -> &'static [u8]
     ensures { result.now ≡ behind_hint (plain_around around.now) those.now }
@@ -516,7 +603,7 @@ fn behind_hint(around: &Around<'_>, those: &[Candidate]) -> &'static [u8]
     } else if is_product(around) {
         b"A product is written with `*`, as in `2 * n`. A number has digits alone.\n"
     } else {
-        foreign_hint(around, those)
+        spoken_hint(around, those)
     }
 }
 
@@ -656,7 +743,7 @@ fn token_hint(around: &Around<'_>, those: &[Candidate]) -> &'static [u8]
     ensures { result.now ≡ token_hint (plain_around around.now) those.now }
 {
     if is_cut_off(around) {
-        b"A comment goes on to a byte 10: here a byte 13 alone ends the lines.\n"
+        b"Here lines end with a carriage return (byte 13) alone, and a comment goes on past it: save the file with line ends of Unix (LF).\n"
     } else if around.read == b"=".as_slice() {
         equals_hint(around, those)
     } else if is_frozen(around.read) {

@@ -96,7 +96,7 @@ static HINTS: [Ends; 40] = [
     Ends {
         source: b"// clock\r1\r",
         begin: "syntax at 11\n",
-        end: ".\nA comment goes on to a byte 10: here a byte 13 alone ends the lines.\n",
+        end: ".\nHere lines end with a carriage return (byte 13) alone, and a comment goes on past it: save the file with line ends of Unix (LF).\n",
     },
     Ends {
         source: b"n where n += 1; end",
@@ -116,7 +116,7 @@ static HINTS: [Ends; 40] = [
     Ends {
         source: b"f(1) where f(0) = 1; end",
         begin: "syntax at 13\n",
-        end: ".\nA parameter is a name. A value that depends on it is written with `if`, and one at time 0 with `fby`.\n",
+        end: ".\nA parameter is a name. What depends on it is written with `if`; a stream that begins with 0 is `n = 0 fby n + 1;`, without parentheses.\n",
     },
     Ends {
         source: b"length where length = 3; end",
@@ -146,7 +146,7 @@ static HINTS: [Ends; 40] = [
     Ends {
         source: b"(1, 2)",
         begin: "syntax at 2\n",
-        end: ".\nParentheses that are no call have one expression in them: a list is `x :: y :: []`. Reserved words, as `if` and `next`, are no functions.\n",
+        end: ".\nParentheses that are no call have one expression in them: a list is `x :: y :: []`. Reserved words, as `if` and `next`, are no functions: a choice is written `if .. then .. else .. fi`.\n",
     },
     Ends {
         source: b"f(1) where f(x = x; end",
@@ -171,7 +171,7 @@ static HINTS: [Ends; 40] = [
     Ends {
         source: b"// clock\r\n",
         begin: "syntax at 10\n",
-        end: ".\nA program begins with an expression, and its definitions stand behind `where`: `n where n = 1; end`.\n",
+        end: ".\nThe program has no token: it is empty, or has blanks and comments alone. Is its file saved?\n",
     },
     Ends {
         source: b"n n = 1; end",
@@ -216,7 +216,7 @@ static HINTS: [Ends; 40] = [
 ];
 
 // More of them. (One test over all is too much for one check.)
-static MORE_HINTS: [Ends; 38] = [
+static MORE_HINTS: [Ends; 47] = [
     Ends {
         source: b"n Where n = 1; end",
         begin: "syntax at 2\n",
@@ -280,7 +280,7 @@ static MORE_HINTS: [Ends; 38] = [
     Ends {
         source: b"n where // one\r n = 1;\r end\r",
         begin: "syntax at 28\n",
-        end: ".\nA comment goes on to a byte 10: here a byte 13 alone ends the lines.\n",
+        end: ".\nHere lines end with a carriage return (byte 13) alone, and a comment goes on past it: save the file with line ends of Unix (LF).\n",
     },
     Ends {
         source: b"n where n = 1; edn",
@@ -406,6 +406,51 @@ static MORE_HINTS: [Ends; 38] = [
         source: b"next 2 n where n = 0 fby n + 1; end",
         begin: "syntax at 7\n",
         end: ".\nIs an operator missing before this? A product is written `2 * n`, and the value of n two times later `next next n`.\n",
+    },
+    Ends {
+        source: b"n where n = 0 followed by n + 1; end",
+        begin: "syntax at 14\n",
+        end: ".\n`followed by` is written `fby`, as in `0 fby n`.\n",
+    },
+    Ends {
+        source: b"n where n = m; where m = 3; end",
+        begin: "syntax at 15\n",
+        end: ".\nOne `where` stands before all definitions of a block, and before the `where` of an inner block stands no `;`.\n",
+    },
+    Ends {
+        source: b"n where n = 0,5; end",
+        begin: "syntax at 13\n",
+        end: ".\nNo `,` stands here between numbers: there are no real numbers, a stream is `1 fby 2 fby 3`, and a list `[% 1 2 3 %]`.\n",
+    },
+    Ends {
+        source: b"if true then 1; else 0 fi",
+        begin: "syntax at 14\n",
+        end: ".\nBefore `else` and `fi` stands no `;`.\n",
+    },
+    Ends {
+        source: b"if true then 1 else 0; fi",
+        begin: "syntax at 21\n",
+        end: ".\nBefore `else` and `fi` stands no `;`.\n",
+    },
+    Ends {
+        source: b"if true then 1 else n where n = 0; end",
+        begin: "syntax at 38\n",
+        end: ".\nEach `if` ends with a `fi` of its own. A `where` between an `if` and its `fi` defines names for the part alone in which it stands.\n",
+    },
+    Ends {
+        source: b"n where n :: Int; end",
+        begin: "syntax at 10\n",
+        end: ".\nKinds of values aren't declared: behind the name stands `=`, and then what it is.\n",
+    },
+    Ends {
+        source: b"=n * 2 where n = 1; end",
+        begin: "syntax at 0\n",
+        end: ".\nA program begins with an expression, and no `=` stands before it.\n",
+    },
+    Ends {
+        source: b"while n < 3 where n = 1; end",
+        begin: "syntax at 6\n",
+        end: ".\nThere are no loops: `n = 0 fby n + 1;` defines the values of all times, and --count N says how many are written.\n",
     },
 ];
 

@@ -101,7 +101,7 @@ static TOKENS: [Row; 7] = [
         words: "p",
         source: "if 1 < 2 then 3",
         status: Status::Refused,
-        report: "syntax at 15\np:1:16:\nif 1 < 2 then 3\n               ^\nHere the source ends.\nWhat may stand here: `else`, `where`, an operator.\nAn `if` has an `else`, and ends with `fi`.\n",
+        report: "syntax at 15\np:1:16:\nif 1 < 2 then 3\n               ^\nHere the source ends.\nWhat may stand here: `else`, `where`, an operator.\nAn `if` has an `else`, and ends with `fi`. To keep some values alone, write `n whenever n > 3`.\n",
     },
     Row {
         words: "p",
@@ -119,7 +119,7 @@ static TOKENS: [Row; 7] = [
         words: "p",
         source: "",
         status: Status::Refused,
-        report: "syntax at 0\np:1:1:\n\n^\nHere the source ends.\nWhat may stand here: a name, a number, `(`, `if`.\nA program begins with an expression, and its definitions stand behind `where`: `n where n = 1; end`.\n",
+        report: "syntax at 0\np:1:1:\n\n^\nHere the source ends.\nWhat may stand here: a name, a number, `(`, `if`.\nThe program has no token: it is empty, or has blanks and comments alone. Is its file saved?\n",
     },
 ];
 
