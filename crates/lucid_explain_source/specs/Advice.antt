@@ -1,10 +1,12 @@
 -- What is said of bytes that are no token, with what was probably meant.
-use Rattle.std.specs.Prelude.{ℕ, Bool, List, ◌++◌, length, take, drop, slice_index, codes, ◌==◌, ◌&&◌, ◌||◌, nat_lt, if◌then◌else◌}
-use Rattle.std.specs.List.{suffix_len}
+use Rattle.std.specs.Prelude.{ℕ, ◌-◌, Bool, List, ◌++◌, length, take, drop, slice_index, codes, ◌==◌, ◌&&◌, ◌||◌, nat_lt, if◌then◌else◌}
+use Rattle.std.specs.List.{prefix_len, suffix_len}
 use Rattle.std.specs.Char.{is_ascii_digit}
 use Rattle.lucid_value.specs.Names.{is_name_byte}
+use Rattle.lucid_value.specs.Plain.{same_bytes}
 use Rattle.lucid_scan.specs.declared.refusal.ScanRefusal.{ScanRefusal}
 use Rattle.lucid_scan.specs.declared.refusal.ScanRefusal.TheVariants as refusal
+use Rattle.lucid_explain_places.specs.Positions.{stands_in_line}
 use Rattle.lucid_explain_places.specs.Shown.{place_text}
 use Rattle.lucid_explain_source.specs.Characters.{begins, differs_advice, character_advice}
 
@@ -19,7 +21,7 @@ abbrev pub byte_advice : ℕ → List ℕ
 byte_advice b =
     if b == 47 then codes "Division is `div`, and what it leaves over is `mod`. A comment begins with `//`.\n"
     else if b == 46 then codes "No `.` stands outside comments and strings: operators and functions stand before what they take, as in `next n` and `f(n)`.\n"
-    else if b == 34 then codes "Between two \" stands one word: a letter, then letters and digits. The truths `true` and `false` stand without \", and other texts between a backquote and '.\n"
+    else if b == 34 then codes "A word stands between two \", as in \"red\": a letter, then letters and digits. Integers, `true` and `false` stand without \", and other texts as `two words'.\n"
     else if b == 39 then string_advice
     else if b == 33 then codes "Write `ne` for what differs, and `not` before a truth.\n"
     else if b == 38 then codes "Write `and`, and to join strings `^`.\n"
@@ -58,12 +60,43 @@ ascii_advice before b = if ends_name before then behind_advice b else byte_advic
 abbrev pub is_real : (rest : List ℕ) → Bool
 is_real rest = nat_lt 1 (length rest) && slice_index rest 0 == 46 && is_ascii_digit (slice_index rest 1)
 
+-- the bytes of a name that stand at the end, and those of a line
+abbrev pub last_name : (before : List ℕ) → List ℕ
+last_name before = drop (length before - suffix_len is_name_byte before) before
+
+abbrev pub last_line : (before : List ℕ) → List ℕ
+last_line before = drop (length before - suffix_len stands_in_line before) before
+
+-- a number stands alone in the line: digits up to its end
+abbrev pub is_numbered : (line : List ℕ) → Bool
+is_numbered line = nat_lt 0 (length line) && prefix_len is_ascii_digit line == length line
+
+-- how other languages begin a loop
+abbrev pub is_loop : (line : List ℕ) → Bool
+is_loop line = begins line (codes "for ") || begins line (codes "while ")
+
+-- of a `.`, by what stands before it
+abbrev pub point_advice : (before rest : List ℕ) → List ℕ
+point_advice before rest =
+    if is_real rest then codes "There are no real numbers: write integers.\n"
+    else if begins rest (codes ".lucid") then codes "A program names no files: these stand in the command.\n"
+    else if is_numbered (last_line before) then codes "Is this the number of an exercise? It is no part of the program: leave it out.\n"
+    else ascii_advice before 46
+
+-- of a `:`, by what stands before it
+abbrev pub colon_advice : (before : List ℕ) → List ℕ
+colon_advice before =
+    if same_bytes (last_name before) (codes "where") then codes "No `:` stands behind `where`: the definitions come there, and then `end`.\n"
+    else if is_loop (last_line before) then codes "There are no loops: `n = 0 fby n + 1;` defines the values of all times, and --count N says how many are written.\n"
+    else ascii_advice before 58
+
 -- of bytes with which no token begins, by what stands before them
 abbrev pub bad_advice : (before rest : List ℕ) → List ℕ
 bad_advice before rest =
     if nat_lt 127 (slice_index rest 0) then character_advice rest
     else if begins rest (codes "/=") then differs_advice
-    else if is_real rest then codes "There are no real numbers: write integers.\n"
+    else if slice_index rest 0 == 46 then point_advice before rest
+    else if slice_index rest 0 == 58 then colon_advice before
     else ascii_advice before (slice_index rest 0)
 
 -- of a string or a list that has no end, or is no value, which begins so

@@ -72,8 +72,8 @@ has_parameter name kind = false
 abbrev pub is_parameter : (name : List ℕ) → List Def → Bool
 is_parameter name defs = list_any (λ d. has_parameter name d.kind) defs
 
-abbrev pub twice_advice : List ℕ
-twice_advice = codes "A block defines a name once. Before this place stands another definition of it:\n"
+unfoldable pub twice_advice : List ℕ
+twice_advice = codes "A block defines a name once, for all times, as in `n = 0 fby n + 1;`. Before this place stands another definition of it:\n"
 
 abbrev pub parameter_advice : List ℕ
 parameter_advice = codes "A list of parameters has each name once.\n"
@@ -84,11 +84,17 @@ no_function_advice = codes "No function of this name is in scope here: define it
 abbrev pub printing_advice : List ℕ
 printing_advice = codes "No function of this name is in scope here. None is needed to print: a program writes the values of its subject, with which it begins.\n"
 
+abbrev pub length_advice : List ℕ
+length_advice = codes "No function of this name is in scope here. How many items a list l has is `length l`.\n"
+
+abbrev pub sum_advice : List ℕ
+sum_advice = codes "No function of this name is in scope here. The sum of x so far is s, with `s = x fby s + next x;`.\n"
+
 abbrev pub not_function_advice : List ℕ
-not_function_advice = codes "What this name stands for here has no parameters: write it without arguments. The value of n at time 3 is `n attime 3`.\n"
+not_function_advice = codes "What this name stands for here has no parameters: write it without arguments. The value of n at time 3 is `n attime 3`, and a product is written with `*`, as in `n * (n + 1)`.\n"
 
 abbrev pub is_function_advice : List ℕ
-is_function_advice = codes "This is a function: its arguments stand behind it in parentheses.\n"
+is_function_advice = codes "This is a function: its arguments stand behind it in parentheses. A function is no value: it can't be an argument itself.\n"
 
 abbrev pub arity_advice : List ℕ
 arity_advice = codes "A call has as many arguments as the function has parameters.\n"
@@ -110,10 +116,16 @@ twice_text source defs at = again_text source (earlier at defs) (headed at defs)
 abbrev pub is_printing : (name : List ℕ) → Bool
 is_printing name = same_bytes name (codes "print") || same_bytes name (codes "println") || same_bytes name (codes "printf") || same_bytes name (codes "write")
 
+-- how other languages ask how many items a list has
+abbrev pub is_length : (name : List ℕ) → Bool
+is_length name = same_bytes name (codes "len") || same_bytes name (codes "size")
+
 -- what is said of a call of a function that isn't in scope
 abbrev pub no_function_text : (source : List ℕ) → List Def → (at : ℕ) → List ℕ
 no_function_text source defs at =
     if is_printing (name_at source at) then advised_text source defs at printing_advice wanted.Functions 6
+    else if is_length (name_at source at) then advised_text source defs at length_advice wanted.Functions 6
+    else if same_bytes (name_at source at) (codes "sum") then advised_text source defs at sum_advice wanted.Functions 6
     else advised_text source defs at no_function_advice wanted.Functions 6
 
 -- What is said of a call of what is no function: the definition of the name, but where the name may be a parameter.

@@ -1,9 +1,11 @@
 //! What is said of a source that the scanner refuses.
 ghost use Rattle.std.specs.Prelude.{◌≡◌, ◌≤◌, ◌<◌, ◌++◌, length, take, drop, OnOk};
-ghost use Rattle.std.specs.List.{suffix_len};
+ghost use Rattle.std.specs.Char.{is_ascii_digit};
+ghost use Rattle.std.specs.List.{prefix_len, suffix_len};
 ghost use Rattle.lucid_value.specs.Names.{is_name_byte};
 ghost use Rattle.lucid_scan.specs.Refusals.{Refuses, most_source_bytes};
-ghost use Rattle.lucid_explain_source.specs.Advice.{byte_advice, ends_name, behind_advice, ascii_advice, is_real, bad_advice, open_advice, big_advice, long_advice, scan_text};
+ghost use Rattle.lucid_explain_source.specs.Advice.{byte_advice, ends_name, behind_advice, ascii_advice, is_real, last_name, last_line, is_numbered, is_loop, point_advice, colon_advice, bad_advice, open_advice, big_advice, long_advice, scan_text};
+ghost use Rattle.lucid_explain_places.specs.Positions.{stands_in_line};
 ghost use Rattle.lucid_explain_places.specs.Shown.{place_text};
 
 use crate::characters::{DIFFERS, begins, character_advice};
@@ -28,7 +30,7 @@ fn byte_advice(byte: u8) -> &'static [u8]
         b'.' =>
             b"No `.` stands outside comments and strings: operators and functions stand before what they take, as in `next n` and `f(n)`.\n",
         b'"' =>
-            b"Between two \" stands one word: a letter, then letters and digits. The truths `true` and `false` stand without \", and other texts between a backquote and '.\n",
+            b"A word stands between two \", as in \"red\": a letter, then letters and digits. Integers, `true` and `false` stand without \", and other texts as `two words'.\n",
         b'\'' => STRING,
         b'!' => b"Write `ne` for what differs, and `not` before a truth.\n",
         b'&' => b"Write `and`, and to join strings `^`.\n",
@@ -56,7 +58,8 @@ fn byte_advice(byte: u8) -> &'static [u8]
 
 // How many bytes of a name stand at the end.
 fn len_of_last(before: &[u8]) -> usize
-    ensures { result ≡ suffix_len is_name_byte before.now }
+    ensures value { result ≡ suffix_len is_name_byte before.now }
+    ensures within { result ≤ length before.now }
 {
     before
         .iter()
@@ -102,6 +105,81 @@ fn is_real(rest: &[u8]) -> bool
     rest.len() > 1 && rest[0] == b'.' && rest[1].is_ascii_digit()
 }
 
+// How many bytes of a line stand at the end.
+fn len_of_line(before: &[u8]) -> usize
+    ensures value { result ≡ suffix_len stands_in_line before.now }
+    ensures within { result ≤ length before.now }
+{
+    before
+        .iter()
+        .rev()
+        .take_while(|byte| **byte != b'\n')
+        .count()
+}
+
+// The bytes of a name that stand at the end.
+fn last_name(before: &[u8]) -> &[u8]
+    ensures { result.now ≡ last_name before.entry.now }
+{
+    &before[before.len() - len_of_last(before)..]
+}
+
+// The bytes of a line that stand at the end.
+fn last_line(before: &[u8]) -> &[u8]
+    ensures { result.now ≡ last_line before.entry.now }
+{
+    &before[before.len() - len_of_line(before)..]
+}
+
+// How many digits stand at the beginning.
+fn len_of_digits(line: &[u8]) -> usize
+    ensures { result ≡ prefix_len is_ascii_digit line.now }
+{
+    line.iter().take_while(|byte| byte.is_ascii_digit()).count()
+}
+
+// Whether a number stands alone in the line.
+fn is_numbered(line: &[u8]) -> bool
+    ensures { result ≡ is_numbered line.now }
+{
+    !line.is_empty() && len_of_digits(line) == line.len()
+}
+
+// Whether other languages begin a loop so.
+fn is_loop(line: &[u8]) -> bool
+    ensures { result ≡ is_loop line.now }
+{
+    begins(line, b"for ") || begins(line, b"while ")
+}
+
+// What is said of a `.`, by what stands before it.
+fn point_advice(before: &[u8], rest: &[u8]) -> &'static [u8]
+    ensures { result.now ≡ point_advice before.now rest.now }
+{
+    if is_real(rest) {
+        b"There are no real numbers: write integers.\n"
+    } else if begins(rest, b".lucid") {
+        b"A program names no files: these stand in the command.\n"
+    } else if is_numbered(last_line(before)) {
+        b"Is this the number of an exercise? It is no part of the program: leave it out.\n"
+    } else {
+        ascii_advice(before, b'.')
+    }
+}
+
+// What is said of a `:`, by what stands before it.
+fn colon_advice(before: &[u8]) -> &'static [u8]
+    ensures { result.now ≡ colon_advice before.now }
+{
+    if last_name(before) == b"where".as_slice() {
+        b"No `:` stands behind `where`: the definitions come there, and then `end`.\n"
+    } else if is_loop(last_line(before)) {
+        b"There are no loops: `n = 0 fby n + 1;` defines the values of all times, and --count N says how many are written.\n"
+    } else {
+        ascii_advice(before, b':')
+    }
+}
+
 // What is said of bytes with which no token begins, by what stands before them.
 fn bad_advice(before: &[u8], rest: &[u8]) -> &'static [u8]
     requires { 0 < length rest.now }
@@ -112,8 +190,10 @@ fn bad_advice(before: &[u8], rest: &[u8]) -> &'static [u8]
         character_advice(rest)
     } else if begins(rest, b"/=") {
         DIFFERS
-    } else if is_real(rest) {
-        b"There are no real numbers: write integers.\n"
+    } else if byte == b'.' {
+        point_advice(before, rest)
+    } else if byte == b':' {
+        colon_advice(before)
     } else {
         ascii_advice(before, byte)
     }

@@ -6,7 +6,7 @@ ghost use Rattle.lucid_value.specs.Plain.{same_bytes};
 ghost use Rattle.lucid_value.specs.Names.{is_name_byte};
 ghost use Rattle.lucid_tree.specs.declared.tree.Def.{Def as PlainDef};
 ghost use Rattle.lucid_scan.specs.Refusals.{most_source_bytes};
-ghost use Rattle.lucid_explain_source.specs.Names.{name_front, name_at, is_function, is_plain, fits, told_text, advised_text, heads, is_before, earlier, headed, has_parameter, is_parameter, parameter_advice, found_text, again_text, twice_text, is_printing, no_function_text, not_function_text, refusal_at, said_text, names_text};
+ghost use Rattle.lucid_explain_source.specs.Names.{name_front, name_at, is_function, is_plain, fits, told_text, advised_text, heads, is_before, earlier, headed, has_parameter, is_parameter, twice_advice, parameter_advice, found_text, again_text, twice_text, is_printing, is_length, no_function_text, not_function_text, refusal_at, said_text, names_text};
 ghost use Rattle.lucid_explain_source.specs.Scopes.{lent, in_scope};
 
 use crate::definitions::put_definition;
@@ -20,13 +20,10 @@ use std::alloc::{AllocError, Global};
 /// The most definitions that are told.
 pub(crate) const MOST_TOLD: usize = 6;
 
-const TWICE: &[u8] =
-    b"A block defines a name once. Before this place stands another definition of it:\n";
-
 const PARAMETER: &[u8] = b"A list of parameters has each name once.\n";
 
 const NOT_FUNCTION: &[u8] =
-    b"What this name stands for here has no parameters: write it without arguments. The value of n at time 3 is `n attime 3`.\n";
+    b"What this name stands for here has no parameters: write it without arguments. The value of n at time 3 is `n attime 3`, and a product is written with `*`, as in `n * (n + 1)`.\n";
 
 /// Which definitions are told.
 #[derive(Clone, Copy)]
@@ -61,6 +58,18 @@ const PRINTING: Advice = Advice {
     most: MOST_TOLD,
 };
 
+const LENGTH: Advice = Advice {
+    says: b"No function of this name is in scope here. How many items a list l has is `length l`.\n",
+    wanted: Wanted::Functions,
+    most: MOST_TOLD,
+};
+
+const SUM: Advice = Advice {
+    says: b"No function of this name is in scope here. The sum of x so far is s, with `s = x fby s + next x;`.\n",
+    wanted: Wanted::Functions,
+    most: MOST_TOLD,
+};
+
 const NO_PARAMETERS: Advice = Advice {
     says: NOT_FUNCTION,
     wanted: Wanted::Plainly,
@@ -68,7 +77,7 @@ const NO_PARAMETERS: Advice = Advice {
 };
 
 const IS_FUNCTION: Advice = Advice {
-    says: b"This is a function: its arguments stand behind it in parentheses.\n",
+    says: b"This is a function: its arguments stand behind it in parentheses. A function is no value: it can't be an argument itself.\n",
     wanted: Wanted::Named,
     most: 1,
 };
@@ -267,6 +276,14 @@ fn put_among(text: &mut Vec<u8>, source: &[u8], among: Option<&Def>) -> Result<(
     put_found(text, source, among)
 }
 
+// What is said of a second definition of a name.
+#[tactic(auto, unfolding(crate::specs::Names::twice_advice))]
+fn twice_advice() -> &'static [u8]
+    ensures { result.now ≡ twice_advice }
+{
+    b"A block defines a name once, for all times, as in `n = 0 fby n + 1;`. Before this place stands another definition of it:\n"
+}
+
 // Appends that a name stands again: behind the definition of it that stands before, or among the parameters of a function.
 fn put_again(
     text: &mut Vec<u8>,
@@ -279,7 +296,7 @@ fn put_again(
 {
     match before {
         Some(def) => {
-            text.extend_from_slice(TWICE)?;
+            text.extend_from_slice(twice_advice())?;
             put_definition(text, source, def)
         }
         None => put_among(text, source, among),
@@ -351,6 +368,13 @@ fn is_printing(name: &[u8]) -> bool
         || name == b"write".as_slice()
 }
 
+// Whether other languages ask so how many items a list has.
+fn is_length(name: &[u8]) -> bool
+    ensures { result ≡ is_length name.now }
+{
+    name == b"len".as_slice() || name == b"size".as_slice()
+}
+
 // Appends what is said of a call of a function that isn't in scope.
 fn put_no_function(
     text: &mut Vec<u8>,
@@ -363,6 +387,10 @@ fn put_no_function(
 {
     if is_printing(name_at(source, at)) {
         put_advised(text, source, defs, at, &PRINTING)
+    } else if is_length(name_at(source, at)) {
+        put_advised(text, source, defs, at, &LENGTH)
+    } else if name_at(source, at) == b"sum".as_slice() {
+        put_advised(text, source, defs, at, &SUM)
     } else {
         put_advised(text, source, defs, at, &NO_FUNCTION)
     }

@@ -455,7 +455,7 @@ static MORE_HINTS: [Ends; 47] = [
 ];
 
 // Bytes that are no tokens, the same.
-static CHARACTERS: [Ends; 26] = [
+static CHARACTERS: [Ends; 30] = [
     Ends {
         source: b"\xef\xbb\xbf1",
         begin: "bad byte at 0\n",
@@ -585,6 +585,26 @@ static CHARACTERS: [Ends; 26] = [
         source: b"n where n = (1 + 2]; end",
         begin: "bad byte at 18\n",
         end: "^\nBefore this no list is open: a `(` ends with `)`, and a list of constants with `%]`.\n",
+    },
+    Ends {
+        source: b"lucid --count=5 program.lucid\nn",
+        begin: "bad byte at 23\n",
+        end: "^\nA program names no files: these stand in the command.\n",
+    },
+    Ends {
+        source: b"// two\n12. n where n = 1; end",
+        begin: "bad byte at 9\n",
+        end: "^\nIs this the number of an exercise? It is no part of the program: leave it out.\n",
+    },
+    Ends {
+        source: b"n where: n = 1; end",
+        begin: "bad byte at 7\n",
+        end: "^\nNo `:` stands behind `where`: the definitions come there, and then `end`.\n",
+    },
+    Ends {
+        source: b"for n in range(5):\n",
+        begin: "bad byte at 17\n",
+        end: "^\nThere are no loops: `n = 0 fby n + 1;` defines the values of all times, and --count N says how many are written.\n",
     },
 ];
 

@@ -31,7 +31,7 @@ static BYTES: [Row; 10] = [
         words: "p",
         source: "x where\r\n\tx = \"true\"; end",
         status: Status::Refused,
-        report: "bad byte at 14\np:2:6:\n x = \"true\"; end\n     ^\nBetween two \" stands one word: a letter, then letters and digits. The truths `true` and `false` stand without \", and other texts between a backquote and '.\n",
+        report: "bad byte at 14\np:2:6:\n x = \"true\"; end\n     ^\nA word stands between two \", as in \"red\": a letter, then letters and digits. Integers, `true` and `false` stand without \", and other texts as `two words'.\n",
     },
     Row {
         words: "p",
@@ -124,12 +124,12 @@ static TOKENS: [Row; 7] = [
 ];
 
 // Names that are at fault.
-static NAMES: [Row; 11] = [
+static NAMES: [Row; 13] = [
     Row {
         words: "p",
         source: "x where x = 1; x = 2; end",
         status: Status::Refused,
-        report: "defined twice at 15\np:1:16:\nx where x = 1; x = 2; end\n               ^\nA block defines a name once. Before this place stands another definition of it:\nx is defined in line 1, column 9.\n",
+        report: "defined twice at 15\np:1:16:\nx where x = 1; x = 2; end\n               ^\nA block defines a name once, for all times, as in `n = 0 fby n + 1;`. Before this place stands another definition of it:\nx is defined in line 1, column 9.\n",
     },
     Row {
         words: "p",
@@ -147,7 +147,7 @@ static NAMES: [Row; 11] = [
         words: "p",
         source: "g(1) where g(f) = f(2); f = 3; end",
         status: Status::Refused,
-        report: "not a function at 18\np:1:19:\ng(1) where g(f) = f(2); f = 3; end\n                  ^\nWhat this name stands for here has no parameters: write it without arguments. The value of n at time 3 is `n attime 3`.\n",
+        report: "not a function at 18\np:1:19:\ng(1) where g(f) = f(2); f = 3; end\n                  ^\nWhat this name stands for here has no parameters: write it without arguments. The value of n at time 3 is `n attime 3`, and a product is written with `*`, as in `n * (n + 1)`.\n",
     },
     Row {
         words: "p",
@@ -171,13 +171,13 @@ static NAMES: [Row; 11] = [
         words: "p",
         source: "x(4) where x = 2; end",
         status: Status::Refused,
-        report: "not a function at 0\np:1:1:\nx(4) where x = 2; end\n^\nWhat this name stands for here has no parameters: write it without arguments. The value of n at time 3 is `n attime 3`.\nx is defined in line 1, column 12.\n",
+        report: "not a function at 0\np:1:1:\nx(4) where x = 2; end\n^\nWhat this name stands for here has no parameters: write it without arguments. The value of n at time 3 is `n attime 3`, and a product is written with `*`, as in `n * (n + 1)`.\nx is defined in line 1, column 12.\n",
     },
     Row {
         words: "p",
         source: "f where f(x) = x; end",
         status: Status::Refused,
-        report: "function without arguments at 0\np:1:1:\nf where f(x) = x; end\n^\nThis is a function: its arguments stand behind it in parentheses.\nf(x) is defined in line 1, column 9.\n",
+        report: "function without arguments at 0\np:1:1:\nf where f(x) = x; end\n^\nThis is a function: its arguments stand behind it in parentheses. A function is no value: it can't be an argument itself.\nf(x) is defined in line 1, column 9.\n",
     },
     Row {
         words: "p",
@@ -190,6 +190,18 @@ static NAMES: [Row; 11] = [
         source: "print(n) where n = 1; f(x) = x; end",
         status: Status::Refused,
         report: "no such function at 0\np:1:1:\nprint(n) where n = 1; f(x) = x; end\n^\nNo function of this name is in scope here. None is needed to print: a program writes the values of its subject, with which it begins.\nf(x) is defined in line 1, column 23.\n",
+    },
+    Row {
+        words: "p",
+        source: "len([])",
+        status: Status::Refused,
+        report: "no such function at 0\np:1:1:\nlen([])\n^\nNo function of this name is in scope here. How many items a list l has is `length l`.\n",
+    },
+    Row {
+        words: "p",
+        source: "sum(n) where n = 1; end",
+        status: Status::Refused,
+        report: "no such function at 0\np:1:1:\nsum(n) where n = 1; end\n^\nNo function of this name is in scope here. The sum of x so far is s, with `s = x fby s + next x;`.\n",
     },
 ];
 
