@@ -27,7 +27,7 @@ enough_text depth time =
     else codes "For time " ++ (decimal time ++ codes " that is more than the greatest --depth, 1000000.\n")
 
 abbrev pub cycle_advice : List ℕ
-cycle_advice = codes "A value of these names needs one of them at the same time or at a later one: so there may be no depth that is enough. An `fby` leads back by one time, and a `next` forward.\n"
+cycle_advice = codes "A value of these names needs one of them at the same time or at a later one: so there may be no depth that is enough. `X fby Y` is X at time 0, and then Y of one time before; `next X` is X of one time later. So `x = 0 fby x + 1` begins with 0 and goes on.\n"
 
 -- the searches, by their words
 abbrev pub is_search : List ℕ → Bool

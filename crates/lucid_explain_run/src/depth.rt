@@ -59,7 +59,7 @@ fn put_enough(text: &mut Vec<u8>, factor: u64, add: u64, time: u64) -> Result<()
 fn cycle_advice() -> &'static [u8]
     ensures { result.now ≡ cycle_advice }
 {
-    b"A value of these names needs one of them at the same time or at a later one: so there may be no depth that is enough. An `fby` leads back by one time, and a `next` forward.\n"
+    b"A value of these names needs one of them at the same time or at a later one: so there may be no depth that is enough. `X fby Y` is X at time 0, and then Y of one time before; `next X` is X of one time later. So `x = 0 fby x + 1` begins with 0 and goes on.\n"
 }
 
 // Whether the word is a search.

@@ -321,13 +321,13 @@ static RUNS: [Row; 7] = [
         words: "--depth 9 p",
         source: "x where x = x; end",
         status: Status::TooDeep,
-        report: "too deep at time 0\n`--cycles` says: cycle x at 8: sum 0\nA value of these names needs one of them at the same time or at a later one: so there may be no depth that is enough. An `fby` leads back by one time, and a `next` forward.\n",
+        report: "too deep at time 0\n`--cycles` says: cycle x at 8: sum 0\nA value of these names needs one of them at the same time or at a later one: so there may be no depth that is enough. `X fby Y` is X at time 0, and then Y of one time before; `next X` is X of one time later. So `x = 0 fby x + 1` begins with 0 and goes on.\n",
     },
     Row {
         words: "--depth 9 --stats p",
         source: "x where x = x; end",
         status: Status::TooDeep,
-        report: "too deep at time 0 lost 0 cleared 0\n`--cycles` says: cycle x at 8: sum 0\nA value of these names needs one of them at the same time or at a later one: so there may be no depth that is enough. An `fby` leads back by one time, and a `next` forward.\nThe store wasn't cleared.\n",
+        report: "too deep at time 0 lost 0 cleared 0\n`--cycles` says: cycle x at 8: sum 0\nA value of these names needs one of them at the same time or at a later one: so there may be no depth that is enough. `X fby Y` is X at time 0, and then Y of one time before; `next X` is X of one time later. So `x = 0 fby x + 1` begins with 0 and goes on.\nThe store wasn't cleared.\n",
     },
     Row {
         words: "--depth 1 p",
@@ -403,7 +403,7 @@ static OTHERS: [Row; 10] = [
         words: "--why 0 p",
         source: "x where x = x; end",
         status: Status::TooDeep,
-        report: "too deep at time 0\n`--cycles` says: cycle x at 8: sum 0\nA value of these names needs one of them at the same time or at a later one: so there may be no depth that is enough. An `fby` leads back by one time, and a `next` forward.\n",
+        report: "too deep at time 0\n`--cycles` says: cycle x at 8: sum 0\nA value of these names needs one of them at the same time or at a later one: so there may be no depth that is enough. `X fby Y` is X at time 0, and then Y of one time before; `next X` is X of one time later. So `x = 0 fby x + 1` begins with 0 and goes on.\n",
     },
     Row {
         words: "--count 2 p",
