@@ -14,8 +14,7 @@ ghost use Rattle.lucid_show_command.specs.Shows.{SaysOrShows};
 use lucid_explain_report::{Outlook, RealOutlook};
 use lucid_ports::{Places, RealPlaces, RealSink, Sink};
 use lucid_report::{Refusal, Status, Stop, tell};
-use lucid_show_command::lucid_show_from_arguments;
-use std::alloc::Global;
+use lucid_show_command::{Means, lucid_show_from_arguments};
 use std::fs::File;
 use std::io::ErrorKind;
 use std::process::ExitCode;
@@ -41,22 +40,21 @@ fn all_arguments(rt: &HostRuntime) -> Result<Vec<String>, Stop> {
 
 // The status of a call by all arguments of the command line, the command's own name first; or by none, where they couldn't be read.
 fn status_by<P: Places, F: Outlook, K: Sink, E: Sink>(
-    alloc: Global,
+    means: &Means<'_, F>,
     arguments: Result<Vec<String>, Stop>,
     places: &mut P,
-    outlook: &F,
     out: &mut K,
     report: &mut E,
 ) -> Status
     requires { (P.world places.old).reached ≡ 0 }
-    ensures call { IfOk arguments (λ words. SaysOrShows (F.files outlook.now) (P.world places.old) (P.world places.new)
+    ensures call { IfOk arguments (λ words. SaysOrShows (F.files means.now.outlook.now) (P.world places.old) (P.world places.new)
         (told K.written K.faults K.late out.old) (told K.written K.faults K.late out.new) (told E.written E.faults E.late report.old) (told E.written E.faults E.late report.new) result
         (text_asked (map string_bytes words.items)) (asked (map string_bytes (drop 1 words.items)))) }
     ensures told { IfErr arguments (λ stop. Tells (Err stop) result (told E.written E.faults E.late report.old) (told E.written E.faults E.late report.new)) }
     ensures untouched { OnErr arguments ((places.new ≡ places.old) × (out.new ≡ out.old)) }
 {
     match arguments {
-        Ok(arguments) => lucid_show_from_arguments(alloc, &arguments, places, outlook, out, report),
+        Ok(arguments) => lucid_show_from_arguments(means, &arguments, places, out, report),
         Err(stop) => tell(report, &Err(stop)),
     }
 }
@@ -67,11 +65,14 @@ fn real_status(rt: &HostRuntime) -> Status {
     let outlook = RealOutlook::make(rt);
     let mut out = RealSink::make(rt.stdout());
     let mut report = RealSink::make(rt.stderr());
+    let means = Means {
+        alloc: rt.alloc(),
+        outlook: &outlook,
+    };
     status_by(
-        rt.alloc(),
+        &means,
         all_arguments(rt),
         &mut places,
-        &outlook,
         &mut out,
         &mut report,
     )

@@ -8,6 +8,7 @@ ghost use Rattle.lucid_show_command.specs.Shows.{SaysOrShows, ShowsAsked, TellsR
 
 use crate::help::text_asked;
 use crate::line::tell_line;
+use crate::means::Means;
 use crate::running::show_run;
 use crate::showing::show_value;
 use crate::words::{Asked, read_asked};
@@ -16,7 +17,6 @@ use lucid_ports::{Places, Sink};
 use lucid_report::{Status, Stop, tell};
 use lucid_top::write_out;
 use lucid_words::WordsRefusal;
-use std::alloc::Global;
 
 const USAGE: &[u8] =
     b"usage: lucid_show [--at T] [--as outline|grid|svg] [--depth N] [--names LIST] [--cells N] PROGRAM [NAME=FILE]... | lucid_show --steps [--count N] [--policy keep|none|age|last] [--age K] [--room N] [--depth N] [--cells N] PROGRAM [NAME=FILE]...\n";
@@ -41,20 +41,19 @@ fn tell_refused<E: Sink>(report: &mut E, refusal: WordsRefusal) -> Status
 /// Shows what the words ask for: writes to `out` what the value of the program at the time was computed from, or the steps of a run, and reports
 /// on `report` how it ended. For the names of a run's steps the program's file is read again. The words are those after the command's own name.
 pub fn lucid_show<P: Places, F: Outlook, K: Sink, E: Sink>(
-    alloc: Global,
+    means: &Means<'_, F>,
     words: &[String],
     places: &mut P,
-    outlook: &F,
     out: &mut K,
     report: &mut E,
 ) -> Status
     requires { (P.world places.old).reached ≡ 0 }
-    ensures { ShowsAsked (F.files outlook.now) (P.world places.old) (P.world places.new) (told K.written K.faults K.late out.old) (told K.written K.faults K.late out.new)
+    ensures { ShowsAsked (F.files means.now.outlook.now) (P.world places.old) (P.world places.new) (told K.written K.faults K.late out.old) (told K.written K.faults K.late out.new)
         (told E.written E.faults E.late report.old) (told E.written E.faults E.late report.new) result (asked (map string_bytes words.now)) }
 {
-    match read_asked(alloc, words) {
-        Ok(Asked::Value(wanted)) => show_value(alloc, &wanted, places, out, report),
-        Ok(Asked::Steps(steps)) => show_run(alloc, &steps, places, outlook, out, report),
+    match read_asked(means.alloc, words) {
+        Ok(Asked::Value(wanted)) => show_value(means.alloc, &wanted, places, out, report),
+        Ok(Asked::Steps(steps)) => show_run(means, &steps, places, out, report),
         Ok(Asked::Misplaced(line)) => tell_line(report, line, Status::Usage),
         Err(refusal) => tell_refused(report, refusal),
     }
@@ -73,15 +72,14 @@ fn words_of(arguments: &[String]) -> &[String]
 /// The same by all arguments of a command line, of which the first is the command's own name. With `--help` or `--version` alone it writes the
 /// text that these ask for.
 pub fn lucid_show_from_arguments<P: Places, F: Outlook, K: Sink, E: Sink>(
-    alloc: Global,
+    means: &Means<'_, F>,
     arguments: &[String],
     places: &mut P,
-    outlook: &F,
     out: &mut K,
     report: &mut E,
 ) -> Status
     requires { (P.world places.old).reached ≡ 0 }
-    ensures { SaysOrShows (F.files outlook.now) (P.world places.old) (P.world places.new) (told K.written K.faults K.late out.old) (told K.written K.faults K.late out.new)
+    ensures { SaysOrShows (F.files means.now.outlook.now) (P.world places.old) (P.world places.new) (told K.written K.faults K.late out.old) (told K.written K.faults K.late out.new)
         (told E.written E.faults E.late report.old) (told E.written E.faults E.late report.new) result
         (text_asked (map string_bytes arguments.now)) (asked (map string_bytes (drop 1 arguments.now))) }
 {
@@ -90,6 +88,6 @@ pub fn lucid_show_from_arguments<P: Places, F: Outlook, K: Sink, E: Sink>(
             let outcome = write_out(text, out);
             tell(report, &outcome)
         }
-        None => lucid_show(alloc, words_of(arguments), places, outlook, out, report),
+        None => lucid_show(means, words_of(arguments), places, out, report),
     }
 }

@@ -2,12 +2,14 @@
 #![tactic(auto)]
 
 pub use crate::command::{lucid_show, lucid_show_from_arguments};
+pub use crate::means::Means;
 
 mod command;
 mod form;
 mod help;
 pub mod laws;
 mod line;
+mod means;
 mod named;
 mod run_words;
 mod running;

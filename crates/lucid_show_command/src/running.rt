@@ -7,6 +7,7 @@ ghost use Rattle.lucid_show_command.specs.Words.{plain_steps};
 ghost use Rattle.lucid_top.specs.Writing.{WritesOnly};
 
 use crate::line::tell_line;
+use crate::means::Means;
 use crate::run_words::Steps;
 use lucid_explain_report::{Again, Outlook, PAST_SOURCE};
 use lucid_ports::{MemorySink, Places, Sink};
@@ -85,21 +86,20 @@ fn tell_run<E: Sink>(
 
 /// Runs what `lucid` would run, in memory, and writes the run's steps. Then it reports what `lucid` would.
 pub(crate) fn show_run<P: Places, F: Outlook, K: Sink, E: Sink>(
-    alloc: Global,
+    means: &Means<'_, F>,
     steps: &Steps,
     places: &mut P,
-    outlook: &F,
     out: &mut K,
     report: &mut E,
 ) -> Status
     requires { (P.world places.old).reached ≡ 0 }
-    ensures { MayLack (ShowsRun (F.files outlook.now) (plain_steps steps.now)) (P.world places.old) (P.world places.new) (told K.written K.faults K.late out.old) (told K.written K.faults K.late out.new)
+    ensures { MayLack (ShowsRun (F.files means.now.outlook.now) (plain_steps steps.now)) (P.world places.old) (P.world places.new) (told K.written K.faults K.late out.old) (told K.written K.faults K.late out.new)
         (told E.written E.faults E.late report.old) (told E.written E.faults E.late report.new) result }
 {
-    let mut line = MemorySink::make(alloc, usize::MAX, Vec::new(alloc));
-    match run_noted(alloc, &steps.words, steps.most, places, &mut line) {
+    let mut line = MemorySink::make(means.alloc, usize::MAX, Vec::new(means.alloc));
+    match run_noted(means.alloc, &steps.words, steps.most, places, &mut line) {
         Ok(run) => {
-            let written = write_run(alloc, &run, steps, outlook, out);
+            let written = write_run(means.alloc, &run, steps, means.outlook, out);
             tell_run(written, line.written(), run.status, report)
         }
         Err(_) => tell(report, &Err(Stop::NoMemory)),

@@ -12,7 +12,7 @@ show_value-requires g c = subst MayShow c.in-Ok-Value.field-0-is c.in-Ok-Value.e
 pub returns-in-Ok-Value : goal.returns-in-Ok-Value
 returns-in-Ok-Value g c =
     subst
-    (λ (o : Option PlainAsked). ShowsAsked (g.F.Outlook.files c.args.outlook.now) (g.P.Places.world c.args.places.now) (g.P.Places.world c.show_value.new.places)
+    (λ (o : Option PlainAsked). ShowsAsked (g.F.Outlook.files c.args.means.now.outlook.now) (g.P.Places.world c.args.places.now) (g.P.Places.world c.show_value.new.places)
     (told g.K.Sink.written g.K.Sink.faults g.K.Sink.late c.args.out.now) (told g.K.Sink.written g.K.Sink.faults g.K.Sink.late c.show_value.new.out)
     (told g.E.Sink.written g.E.Sink.faults g.E.Sink.late c.args.report.now) (told g.E.Sink.written g.E.Sink.faults g.E.Sink.late c.show_value.new.report) c.show_value.result o)
     (sym (c.in-Ok-Value.ensures.asked ∙ ap (λ (a : Asked). Some (plain_asked a)) c.in-Ok-Value.field-0-is)) (shown c.show_value.ensures)
@@ -20,22 +20,22 @@ returns-in-Ok-Value g c =
 pub returns-in-Ok-Steps : goal.returns-in-Ok-Steps
 returns-in-Ok-Steps g c =
     subst
-    (λ (o : Option PlainAsked). ShowsAsked (g.F.Outlook.files c.args.outlook.now) (g.P.Places.world c.args.places.now) (g.P.Places.world c.show_run.new.places)
+    (λ (o : Option PlainAsked). ShowsAsked (g.F.Outlook.files c.args.means.now.outlook.now) (g.P.Places.world c.args.places.now) (g.P.Places.world c.show_run.new.places)
     (told g.K.Sink.written g.K.Sink.faults g.K.Sink.late c.args.out.now) (told g.K.Sink.written g.K.Sink.faults g.K.Sink.late c.show_run.new.out)
     (told g.E.Sink.written g.E.Sink.faults g.E.Sink.late c.args.report.now) (told g.E.Sink.written g.E.Sink.faults g.E.Sink.late c.show_run.new.report) c.show_run.result o)
     (sym (c.in-Ok-Steps.ensures.asked ∙ ap (λ (a : Asked). Some (plain_asked a)) c.in-Ok-Steps.field-0-is))
-    (run_shows (g.F.Outlook.files c.args.outlook.now) (plain_steps c.in-Ok-Steps.steps) _ _ _ _ _ _ _ c.show_run.ensures)
+    (run_shows (g.F.Outlook.files c.args.means.now.outlook.now) (plain_steps c.in-Ok-Steps.steps) _ _ _ _ _ _ _ c.show_run.ensures)
 
 pub returns-in-Ok-Misplaced : goal.returns-in-Ok-Misplaced
 returns-in-Ok-Misplaced g c =
     subst
-    (λ (o : Option PlainAsked). ShowsAsked (g.F.Outlook.files c.args.outlook.now) (g.P.Places.world c.args.places.now) (g.P.Places.world c.args.places.now)
+    (λ (o : Option PlainAsked). ShowsAsked (g.F.Outlook.files c.args.means.now.outlook.now) (g.P.Places.world c.args.places.now) (g.P.Places.world c.args.places.now)
     (told g.K.Sink.written g.K.Sink.faults g.K.Sink.late c.args.out.now) (told g.K.Sink.written g.K.Sink.faults g.K.Sink.late c.args.out.now)
     (told g.E.Sink.written g.E.Sink.faults g.E.Sink.late c.args.report.now) (told g.E.Sink.written g.E.Sink.faults g.E.Sink.late c.tell_line.new.report) c.tell_line.result o)
     (sym (c.in-Ok-Misplaced.ensures.asked ∙ ap (λ (a : Asked). Some (plain_asked a)) c.in-Ok-Misplaced.field-0-is)) (misplaces refl refl c.tell_line.ensures)
 
 pub returns-in-Err : goal.returns-in-Err
 returns-in-Err g c =
-    refused_shows (g.F.Outlook.files c.args.outlook.now) (g.P.Places.world c.args.places.now) (told g.K.Sink.written g.K.Sink.faults g.K.Sink.late c.args.out.now)
+    refused_shows (g.F.Outlook.files c.args.means.now.outlook.now) (g.P.Places.world c.args.places.now) (told g.K.Sink.written g.K.Sink.faults g.K.Sink.late c.args.out.now)
     (told g.E.Sink.written g.E.Sink.faults g.E.Sink.late c.args.report.now) (told g.E.Sink.written g.E.Sink.faults g.E.Sink.late c.tell_refused.new.report) c.tell_refused.result
     (asked (map (string_bytes {Z = Rattle.std.specs.Global.Global}) c.args.words.now)) c.in-Err.refusal c.in-Err.ensures.asked c.tell_refused.ensures

@@ -1,4 +1,4 @@
-use Rattle.lucid_show_command.proofs.Common.{◌≡◌, Some, refl, subst}
+use Rattle.lucid_show_command.proofs.Common.{Some, refl, subst}
 use Rattle.std.specs.Prelude.{IfOk}
 use Rattle.lucid_ports.specs.Sink.{sink_bytes, sink_faults, sink_late}
 use Rattle.lucid_scope.specs.Scoped.{scoped_tree, scoped_inputs, scoped_binding}
