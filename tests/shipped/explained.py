@@ -90,7 +90,7 @@ def bytes_that_are_no_text(run):
 
 NO_VALUE = " of this input is no value, or it is `error` itself. A value is an integer, as -12, a word without quotes, as red, a string, as `two words', a list, as [% 1 2 %], `true` or `false`. Of an input x, `x whenever not iserror x` has the other lines.\n"
 
-AT_NO_PLACE = "It isn't told where this came from: the standard input can't be read again. With NAME=FILE an input has a file.\n"
+AT_NO_PLACE = "Where the values came from isn't told: the standard input can't be read again. With NAME=FILE an input has a file.\n"
 
 
 @case

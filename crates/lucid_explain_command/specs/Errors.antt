@@ -97,7 +97,7 @@ pub record IsMade (files : Files) (words : List Text) (asked : PlainWords) (name
 abbrev pub behind_free : (said : List ℕ) → List ℕ
 behind_free [] = []
 behind_free (b ∷ bs) =
-    codes "It isn't told where this came from: the standard input can't be read again. With NAME=FILE an input has a file.\n" ++ (b ∷ bs)
+    codes "Where the values came from isn't told: the standard input can't be read again. With NAME=FILE an input has a file.\n" ++ (b ∷ bs)
 
 abbrev pub SaysUnmade : (terminal : Bool) → PlainWords → (source text : List ℕ) → Type 0
 SaysUnmade true asked source text = text ≡ []

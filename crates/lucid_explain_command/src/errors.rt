@@ -45,7 +45,7 @@ fn behind_free(alloc: Global, said: &[u8]) -> Result<Vec<u8>, AllocError>
     let mut text = Vec::new(alloc);
     if !said.is_empty() {
         text.extend_from_slice(
-            b"It isn't told where this came from: the standard input can't be read again. With NAME=FILE an input has a file.\n",
+            b"Where the values came from isn't told: the standard input can't be read again. With NAME=FILE an input has a file.\n",
         )?;
         text.extend_from_slice(said)?;
     }

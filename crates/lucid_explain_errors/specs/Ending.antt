@@ -22,8 +22,8 @@ use Rattle.lucid_explain_errors.specs.Steps.{Told}
 -- of a form over streams, by what it looked at last: what it wants of that
 abbrev pub form_text : Form → List ℕ
 form_text forms.If = codes "it wants `true` or `false`.\n"
-form_text forms.And = codes "it wants `true` or `false`.\n"
-form_text forms.Or = codes "it wants `true` or `false`.\n"
+form_text forms.And = codes "it wants `true` or `false`. On both sides of it stands a test, as in `n > 1 and n < 5`.\n"
+form_text forms.Or = codes "it wants `true` or `false`. On both sides of it stands a test, as in `n eq 1 or n eq 2`.\n"
 form_text forms.Whenever = codes "it wants `true` or `false` on its right side.\n"
 form_text forms.Asa = codes "it wants `true` or `false` on its right side.\n"
 form_text forms.Upon = codes "it wants `true` or `false` on its right side.\n"

@@ -1,6 +1,6 @@
 -- Inputs whose bytes are there, and a line of one as it is told.
 use Rattle.std.specs.Prelude.{ℕ, nat_le, ◌==◌, ◌&&◌, if◌then◌else◌, Bool, List, [], ◌∷◌, ◌++◌, length, map, take, find, codes, Option, Some, None, slice_get}
-use Rattle.std.specs.List.{slice_split}
+use Rattle.std.specs.List.{list_any, slice_split}
 use Rattle.lucid_value.specs.Plain.{same_bytes, is_text, is_light}
 use Rattle.lucid_explain_places.specs.Shown.{shown_byte}
 use Rattle.lucid_explain_source.specs.Characters.{begins}
@@ -39,9 +39,16 @@ string_text line = codes "As a string it is written `" ++ (line ++ codes "'.\n")
 abbrev pub quoted_text : (line : List ℕ) → List ℕ
 quoted_text line = if is_quotable line then string_text line else []
 
--- a byte order mark in front (239, 187, 191)
+abbrev pub has_comma : (line : List ℕ) → Bool
+has_comma line = list_any (λ b. b == 44) line
+
+-- of a comma (44): the line may have more values than one
+abbrev pub comma_text : (line : List ℕ) → List ℕ
+comma_text line = if has_comma line then codes "A line is one value: two columns stand in two files, or as lists, `[% 1 2 %]`, without commas.\n" else []
+
+-- a byte order mark in front (239, 187, 191), or else a comma
 abbrev pub mark_text : (line : List ℕ) → List ℕ
-mark_text line = if begins line (239 ∷ 187 ∷ 191 ∷ []) then codes "A byte order mark stands in front of it: save the file without it.\n" else []
+mark_text line = if begins line (239 ∷ 187 ∷ 191 ∷ []) then codes "A byte order mark stands in front of it: save the file without it.\n" else comma_text line
 
 -- the line
 abbrev pub shown_line : (line : List ℕ) → List ℕ

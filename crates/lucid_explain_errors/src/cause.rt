@@ -161,7 +161,8 @@ fn kinds_hint(op: Op) -> &'static [u8]
     ensures { result.now ≡ kinds_hint op }
 {
     match op {
-        Op::Add => b"Strings, as `red' and `blue', are joined by `^`, and lists by `<>`.\n",
+        Op::Add =>
+            b"Strings, as `red' and `blue', are joined by `^`, and lists by `<>`. \"red\" is a word, and words aren't joined.\n",
         Op::Join =>
             b"A string is written `red', and \"red\" is a word. Lists are joined by `<>`. A power is written `**`.\n",
         Op::Cons => {

@@ -27,7 +27,13 @@ fn form_text(form: Form) -> &'static [u8]
     ensures { result.now ≡ form_text form }
 {
     match form {
-        Form::If | Form::And | Form::Or => b"it wants `true` or `false`.\n",
+        Form::If => b"it wants `true` or `false`.\n",
+        Form::And => {
+            b"it wants `true` or `false`. On both sides of it stands a test, as in `n > 1 and n < 5`.\n"
+        }
+        Form::Or => {
+            b"it wants `true` or `false`. On both sides of it stands a test, as in `n eq 1 or n eq 2`.\n"
+        }
         Form::Whenever | Form::Asa | Form::Upon => {
             b"it wants `true` or `false` on its right side.\n"
         }

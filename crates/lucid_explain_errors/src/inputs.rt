@@ -1,7 +1,7 @@
 //! A line of an input, as it is told.
 ghost use Rattle.std.specs.Prelude.{◌≡◌, ◌++◌, map, take, OnOk, option_map};
 ghost use Rattle.std.specs.Option.{option_copied};
-ghost use Rattle.lucid_explain_errors.specs.Inputs.{is_of, input_of, line_at, line_of, short_shown, is_quotable, string_text, quoted_text, mark_text, shown_line, line_seen, line_seen_if};
+ghost use Rattle.lucid_explain_errors.specs.Inputs.{is_of, input_of, line_at, line_of, short_shown, is_quotable, string_text, quoted_text, has_comma, comma_text, mark_text, shown_line, line_seen, line_seen_if};
 
 use crate::texts::{MOST_BYTES, front};
 use lucid_explain_places::put_shown;
@@ -85,14 +85,32 @@ fn put_quoted(text: &mut Vec<u8>, line: &[u8]) -> Result<(), AllocError>
     Ok(())
 }
 
-// What is said of a byte order mark in front.
+// Whether a comma stands in the line.
+fn has_comma(line: &[u8]) -> bool
+    ensures { result ≡ has_comma line.now }
+{
+    line.iter().any(|byte| *byte == b',')
+}
+
+// What is said of a comma.
+fn comma_text(line: &[u8]) -> &'static [u8]
+    ensures { result.now ≡ comma_text line.now }
+{
+    if has_comma(line) {
+        b"A line is one value: two columns stand in two files, or as lists, `[% 1 2 %]`, without commas.\n"
+    } else {
+        b""
+    }
+}
+
+// What is said of a byte order mark in front, or else of a comma.
 fn mark_text(line: &[u8]) -> &'static [u8]
     ensures { result.now ≡ mark_text line.now }
 {
     if begins(line, b"\xef\xbb\xbf") {
         b"A byte order mark stands in front of it: save the file without it.\n"
     } else {
-        b""
+        comma_text(line)
     }
 }
 

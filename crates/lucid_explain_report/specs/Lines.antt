@@ -1,5 +1,5 @@
 -- What is said of a line of the report by itself.
-use Rattle.std.specs.Prelude.{ℕ, ◌==◌, Bool, List, [], codes, nat_eq, nat_lt, if◌then◌else◌}
+use Rattle.std.specs.Prelude.{ℕ, ◌==◌, ◌||◌, Bool, List, [], codes, nat_eq, nat_lt, if◌then◌else◌}
 use Rattle.std.specs.List.{count_by, starts_with, ends_with}
 
 -- The line begins, or ends, with the text.
@@ -45,10 +45,16 @@ program_text line =
     else if begins line (codes "too many names") then codes "`--cycles` judges programs of at most 2,000 plain names.\n"
     else table_text line
 
+-- of a name for which a word gives a file; where an option has this name, the word may be that option without its minus signs
+unfoldable pub given_text : List ℕ → List ℕ
+given_text line =
+    if ends line (codes " named count\n") || ends line (codes " named depth\n") then codes "An option begins with two minus signs, as --count=5: this word gives a file for a name, which in the program isn't free.\n"
+    else codes "A word gives a file for this name, but in the program it isn't free: leave the word out, or mend the name.\n"
+
 -- of inputs, and of the ends of a run
 abbrev pub run_text : (line : List ℕ) → List ℕ
 run_text line =
-    if begins line (codes "no input is named ") then codes "A word gives a file for this name, but in the program it isn't free: leave the word out, or mend the name.\n"
+    if begins line (codes "no input is named ") then given_text line
     else if begins line (codes "no input for two names") then codes "A name that nothing defines is an input. One of them may be read from the standard input; give each other a file, as in NAME=FILE. Often such a name is misspelt.\n"
     else if begins line (codes "input ") then codes "An element of this input that is needed ends past the bytes of it that may be read, 268,435,456.\n"
     else if begins line (codes "write fault") then codes "The standard output can't be written: the disk may be full. Or a program that reads it has ended, as `head` does: that is no mistake.\n"

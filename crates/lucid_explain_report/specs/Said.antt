@@ -112,8 +112,9 @@ files_asked asked = source_files asked.source ++ (certificate_files asked.check 
 abbrev pub fault_text : (name : List ℕ) → List ℕ
 fault_text name = codes "This file can't be opened or read: " ++ (shown_text name ++ codes "\n")
 
-abbrev pub unknown_text : List ℕ
-unknown_text = codes "A file of these words, or the standard input, couldn't be read to the end.\n"
+-- of a fault where all files can be read now
+unfoldable pub unknown_text : List ℕ
+unknown_text = codes "A file of these words, or the standard input, couldn't be read to the end. A folder can't be read: name a file in it.\n"
 
 -- Those are the names, in order, under which nothing can be read.
 pub data AreUnread (files : Files) : (names those : List Text) → Type 0 where
@@ -234,11 +235,16 @@ dash_bytes = 226 ∷ 128 ∷ []
 abbrev pub argument_advice : (word : Text) → List ℕ
 argument_advice word =
     if begins word dash_bytes then codes "An option begins with two plain minus signs, as --count.\n"
-    else codes "What an option wants stands behind it: of --count, --depth, --age and --room a number from 1 to 1000000, of --columns names as n,m, of --why a time. Then comes the program's file, and then NAME=FILE for each input that has a file.\n"
+    else codes "What an option wants stands behind it: of --count, --depth, --age and --room a number from 1 to 1000000, of --columns names as n,m, of --why a time. Then comes the program's file, and then NAME=FILE, as one word without blanks, for each input that has a file.\n"
+
+-- the words that go with no others
+abbrev pub stands_alone : (word : Text) → Bool
+stands_alone word = same_bytes word (codes "--help") || same_bytes word (codes "--version")
 
 abbrev pub word_advice : (word : Text) → List ℕ
 word_advice word =
-    if is_number_option (option_of word) then codes "This option has a number from 1 to 1000000, in digits alone, and is given once at most.\n"
+    if stands_alone word then codes "`--help` and `--version` stand alone, as in `lucid_explain --help`.\n"
+    else if is_number_option (option_of word) then codes "This option has a number from 1 to 1000000, in digits alone, and is given once at most.\n"
     else if same_bytes (option_of word) (codes "--policy") then codes "The policies are keep, none, age and last, and the option is given once at most.\n"
     else if begins word (codes "-") then codes "The line above has the options, each of which is given once at most; of --print, --columns, --cycles, --why, --check, --flat and --from-flat one alone is given. --columns has names with commas between them, as n,m, and --why a time.\n"
     else argument_advice word

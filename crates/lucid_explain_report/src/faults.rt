@@ -5,7 +5,7 @@ ghost use Rattle.lucid_words.specs.Asked.{plain_words};
 ghost use Rattle.lucid_words.specs.Plain.{plain_given, plain_source};
 ghost use Rattle.lucid_explain_report.specs.Files.{Held, IsSeen, is_unread, plain_again};
 ghost use Rattle.lucid_explain_report.specs.Lines.{begins};
-ghost use Rattle.lucid_explain_report.specs.Said.{shown_text, source_files, certificate_files, given_file, files_asked, fault_text, TellsFiles, or_unknown, Says};
+ghost use Rattle.lucid_explain_report.specs.Said.{shown_text, source_files, certificate_files, given_file, files_asked, fault_text, TellsFiles, unknown_text, or_unknown, Says};
 
 use crate::outlook::{Again, Outlook};
 use lucid_explain_places::put_shown;
@@ -126,15 +126,20 @@ fn text_of_files<F: Outlook>(
     Ok(text)
 }
 
+// What is said of a read fault, where all files can be read now.
+#[tactic(auto, unfolding(crate::specs::Said::unknown_text))]
+fn unknown_text() -> &'static [u8]
+    ensures { result.now ≡ unknown_text }
+{
+    b"A file of these words, or the standard input, couldn't be read to the end. A folder can't be read: name a file in it.\n"
+}
+
 // What is said of a read fault, where these files are told.
 fn or_unknown(alloc: Global, told: Vec<u8>) -> Result<Vec<u8>, AllocError>
     ensures { IfOk result (λ text. text.items ≡ or_unknown told.items) }
 {
     if told.is_empty() {
-        return Vec::from_slice(
-            alloc,
-            b"A file of these words, or the standard input, couldn't be read to the end.\n",
-        );
+        return Vec::from_slice(alloc, unknown_text());
     }
     Ok(told)
 }

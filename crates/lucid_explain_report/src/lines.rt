@@ -1,7 +1,7 @@
 //! What is said of a line of the report by itself.
 ghost use Rattle.std.specs.Prelude.{◌≡◌};
 ghost use Rattle.std.specs.List.{count_by};
-ghost use Rattle.lucid_explain_report.specs.Lines.{begins, ends, is_blank, store_text, certificate_text, table_text, program_text, run_text, line_text};
+ghost use Rattle.lucid_explain_report.specs.Lines.{begins, ends, is_blank, store_text, certificate_text, table_text, program_text, given_text, run_text, line_text};
 ghost use Rattle.lucid_explain_report.specs.Said.{source_lines, is_of_source, texts_of};
 
 /// Whether the line begins with the text.
@@ -87,12 +87,24 @@ fn program_text(line: &[u8]) -> &'static [u8]
     }
 }
 
+// What is said of a name for which a word gives a file.
+#[tactic(auto, unfolding(crate::specs::Lines::given_text))]
+fn given_text(line: &[u8]) -> &'static [u8]
+    ensures { result.now ≡ given_text line.now }
+{
+    if ends(line, b" named count\n") || ends(line, b" named depth\n") {
+        b"An option begins with two minus signs, as --count=5: this word gives a file for a name, which in the program isn't free.\n"
+    } else {
+        b"A word gives a file for this name, but in the program it isn't free: leave the word out, or mend the name.\n"
+    }
+}
+
 // What is said of lines of inputs and of the ends of a run, or of others behind these.
 fn run_text(line: &[u8]) -> &'static [u8]
     ensures { result.now ≡ run_text line.now }
 {
     if begins(line, b"no input is named ") {
-        b"A word gives a file for this name, but in the program it isn't free: leave the word out, or mend the name.\n"
+        given_text(line)
     } else if begins(line, b"no input for two names") {
         b"A name that nothing defines is an input. One of them may be read from the standard input; give each other a file, as in NAME=FILE. Often such a name is misspelt.\n"
     } else if begins(line, b"input ") {

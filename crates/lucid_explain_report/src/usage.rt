@@ -3,7 +3,7 @@ ghost use Rattle.std.specs.Prelude.{◌≡◌, ℕ, ◌<◌, ◌≤◌, ◌+◌,
 ghost use Rattle.std.specs.String.{string_bytes};
 ghost use Rattle.std.specs.List.{prefix_len};
 ghost use Rattle.clap.specs.Words.{Text as Word};
-ghost use Rattle.lucid_explain_report.specs.Said.{goes_on, is_right_with, option_of, is_number_option, argument_advice, word_advice, wrong_text, lacking_text, texts_of, SaysWords};
+ghost use Rattle.lucid_explain_report.specs.Said.{goes_on, is_right_with, option_of, is_number_option, argument_advice, stands_alone, word_advice, wrong_text, lacking_text, texts_of, SaysWords};
 
 use crate::faults::put_front;
 use crate::lines::begins;
@@ -108,8 +108,15 @@ fn argument_advice(word: &[u8]) -> &'static [u8]
     if begins(word, b"\xe2\x80") {
         b"An option begins with two plain minus signs, as --count.\n"
     } else {
-        b"What an option wants stands behind it: of --count, --depth, --age and --room a number from 1 to 1000000, of --columns names as n,m, of --why a time. Then comes the program's file, and then NAME=FILE for each input that has a file.\n"
+        b"What an option wants stands behind it: of --count, --depth, --age and --room a number from 1 to 1000000, of --columns names as n,m, of --why a time. Then comes the program's file, and then NAME=FILE, as one word without blanks, for each input that has a file.\n"
     }
+}
+
+// Whether this word goes with no others.
+fn stands_alone(word: &[u8]) -> bool
+    ensures { result ≡ stands_alone word.now }
+{
+    word == b"--help".as_slice() || word == b"--version".as_slice()
 }
 
 // What is said of a word, by its beginning.
@@ -117,7 +124,9 @@ fn word_advice(word: &[u8]) -> &'static [u8]
     ensures { result.now ≡ word_advice word.now }
 {
     let option = option_of(word);
-    if is_number_option(option) {
+    if stands_alone(word) {
+        b"`--help` and `--version` stand alone, as in `lucid_explain --help`.\n"
+    } else if is_number_option(option) {
         b"This option has a number from 1 to 1000000, in digits alone, and is given once at most.\n"
     } else if option == b"--policy".as_slice() {
         b"The policies are keep, none, age and last, and the option is given once at most.\n"

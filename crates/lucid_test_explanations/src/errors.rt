@@ -14,19 +14,19 @@ struct Row {
 }
 
 // The nodes of the second and the fifth source are t, a, t, a, next, +, fby; those of the third 3, f(3), x, "b", *; of the fourth u, 1, atspace, 0, u, hd,
-// sby; of the ninth 3, 1, 2, if; of the tenth 1, 0, whenever; of the next 1, 2, 3, -, attime; of the last t, error, t, fby.
-static ROWS: [Row; 13] = [
+// sby; of the ninth 3, 1, 2, if; of the tenth 1, 0, whenever; of the next 1, 2, 3, -, attime; of the last but one false, 3, or; of the last t, error, t, fby.
+static ROWS: [Row; 15] = [
     Row {
         source: "1 + \"dog\"",
         certificate: "j 0 0 0 0 0 1\nj 1 0 0 0 0 dog\nj 2 0 0 0 2 0 1 error\n",
         input: None,
-        text: "The value at time 0 is `error`.\np:1:3:\n1 + \"dog\"\n  ^\nAt time 0 `+` gets 1 and dog: it wants two integers.\nStrings, as `red' and `blue', are joined by `^`, and lists by `<>`.\n",
+        text: "The value at time 0 is `error`.\np:1:3:\n1 + \"dog\"\n  ^\nAt time 0 `+` gets 1 and dog: it wants two integers.\nStrings, as `red' and `blue', are joined by `^`, and lists by `<>`. \"red\" is a word, and words aren't joined.\n",
     },
     Row {
         source: "t where t = a fby t + next a; end",
         certificate: "j 3 0 1 0 0 dog\nj 4 0 0 0 1 0 dog\nj 1 0 0 0 0 1\nj 6 0 0 0 1 2 1\nj 2 0 0 0 1 3 1\nj 5 0 0 0 2 4 1 error\nj 6 0 1 0 1 5 error\nj 0 0 1 0 1 6 error\n",
         input: None,
-        text: "The value at time 1 is `error`.\nt at time 1 is `error`.\np:1:21:\nt where t = a fby t + next a; end\n                    ^\nAt time 0 `+` gets 1 and dog: it wants two integers.\nStrings, as `red' and `blue', are joined by `^`, and lists by `<>`.\n",
+        text: "The value at time 1 is `error`.\nt at time 1 is `error`.\np:1:21:\nt where t = a fby t + next a; end\n                    ^\nAt time 0 `+` gets 1 and dog: it wants two integers.\nStrings, as `red' and `blue', are joined by `^`, and lists by `<>`. \"red\" is a word, and words aren't joined.\n",
     },
     Row {
         source: "f(3) where f(x) = x * \"b\"; end",
@@ -87,6 +87,18 @@ static ROWS: [Row; 13] = [
         certificate: "j 0 0 0 0 0 error\nj 1 0 0 0 1 0 true\n",
         input: None,
         text: "",
+    },
+    Row {
+        source: "a",
+        certificate: "j 0 0 0 0 0 error\n",
+        input: Some("1,2\n"),
+        text: "The value at time 0 is `error`.\na at time 0 is `error`.\np:1:1:\na\n^\nLine 1 of this input is no value, or it is `error` itself. A value is an integer, as -12, a word without quotes, as red, a string, as `two words', a list, as [% 1 2 %], `true` or `false`. Of an input x, `x whenever not iserror x` has the other lines.\nThe line is: 1,2\nAs a string it is written `1,2'.\nA line is one value: two columns stand in two files, or as lists, `[% 1 2 %]`, without commas.\n",
+    },
+    Row {
+        source: "false or 3",
+        certificate: "j 0 0 0 0 0 false\nj 1 0 0 0 0 3\nj 2 0 0 0 2 0 1 error\n",
+        input: None,
+        text: "The value at time 0 is `error`.\np:1:7:\nfalse or 3\n      ^\nAt time 0 `or` gets 3: it wants `true` or `false`. On both sides of it stands a test, as in `n eq 1 or n eq 2`.\n",
     },
     Row {
         source: "t where t = error fby t; end",

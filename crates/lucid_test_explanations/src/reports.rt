@@ -206,7 +206,7 @@ static NAMES: [Row; 13] = [
 ];
 
 // Inputs and columns.
-static INPUTS: [Row; 8] = [
+static INPUTS: [Row; 9] = [
     Row {
         words: "p",
         source: "a + b",
@@ -230,6 +230,12 @@ static INPUTS: [Row; 8] = [
         source: "n where n = 1; end",
         status: Status::Usage,
         report: "no input is named n\nA word gives a file for this name, but in the program it isn't free: leave the word out, or mend the name.\nThe program has no input.\n",
+    },
+    Row {
+        words: "p count=5",
+        source: "n where n = 1; end",
+        status: Status::Usage,
+        report: "no input is named count\nAn option begins with two minus signs, as --count=5: this word gives a file for a name, which in the program isn't free.\nThe program has no input.\n",
     },
     Row {
         words: "p",
@@ -258,7 +264,7 @@ static INPUTS: [Row; 8] = [
 ];
 
 // Words that are refused.
-static WORDS: [Row; 8] = [
+static WORDS: [Row; 9] = [
     Row {
         words: "p --print --cycles",
         source: "1",
@@ -269,13 +275,13 @@ static WORDS: [Row; 8] = [
         words: "--count 0 p",
         source: "1",
         status: Status::Usage,
-        report: "usage: lucid [--count N] [--depth N] [--policy keep|none|age|last] [--age K] [--room N] [--stats] [--print] [--columns LIST] [--cycles] [--why T] [--check FILE] [--flat] [--from-flat] PROGRAM [NAME=FILE]... | lucid --make N\nThis word doesn't go with those before it: 0\nWhat an option wants stands behind it: of --count, --depth, --age and --room a number from 1 to 1000000, of --columns names as n,m, of --why a time. Then comes the program's file, and then NAME=FILE for each input that has a file.\n",
+        report: "usage: lucid [--count N] [--depth N] [--policy keep|none|age|last] [--age K] [--room N] [--stats] [--print] [--columns LIST] [--cycles] [--why T] [--check FILE] [--flat] [--from-flat] PROGRAM [NAME=FILE]... | lucid --make N\nThis word doesn't go with those before it: 0\nWhat an option wants stands behind it: of --count, --depth, --age and --room a number from 1 to 1000000, of --columns names as n,m, of --why a time. Then comes the program's file, and then NAME=FILE, as one word without blanks, for each input that has a file.\n",
     },
     Row {
         words: "p p a=f",
         source: "1",
         status: Status::Usage,
-        report: "usage: lucid [--count N] [--depth N] [--policy keep|none|age|last] [--age K] [--room N] [--stats] [--print] [--columns LIST] [--cycles] [--why T] [--check FILE] [--flat] [--from-flat] PROGRAM [NAME=FILE]... | lucid --make N\nThis word doesn't go with those before it: p\nWhat an option wants stands behind it: of --count, --depth, --age and --room a number from 1 to 1000000, of --columns names as n,m, of --why a time. Then comes the program's file, and then NAME=FILE for each input that has a file.\n",
+        report: "usage: lucid [--count N] [--depth N] [--policy keep|none|age|last] [--age K] [--room N] [--stats] [--print] [--columns LIST] [--cycles] [--why T] [--check FILE] [--flat] [--from-flat] PROGRAM [NAME=FILE]... | lucid --make N\nThis word doesn't go with those before it: p\nWhat an option wants stands behind it: of --count, --depth, --age and --room a number from 1 to 1000000, of --columns names as n,m, of --why a time. Then comes the program's file, and then NAME=FILE, as one word without blanks, for each input that has a file.\n",
     },
     Row {
         words: "p a=f --depth",
@@ -300,6 +306,12 @@ static WORDS: [Row; 8] = [
         source: "1",
         status: Status::Usage,
         report: "usage: lucid [--count N] [--depth N] [--policy keep|none|age|last] [--age K] [--room N] [--stats] [--print] [--columns LIST] [--cycles] [--why T] [--check FILE] [--flat] [--from-flat] PROGRAM [NAME=FILE]... | lucid --make N\nThis word doesn't go with those before it: --policy=lru\nThe policies are keep, none, age and last, and the option is given once at most.\n",
+    },
+    Row {
+        words: "p --help",
+        source: "1",
+        status: Status::Usage,
+        report: "usage: lucid [--count N] [--depth N] [--policy keep|none|age|last] [--age K] [--room N] [--stats] [--print] [--columns LIST] [--cycles] [--why T] [--check FILE] [--flat] [--from-flat] PROGRAM [NAME=FILE]... | lucid --make N\nThis word doesn't go with those before it: --help\n`--help` and `--version` stand alone, as in `lucid_explain --help`.\n",
     },
     Row {
         words: "p --counter=3",
@@ -425,7 +437,7 @@ static DONE: [Row; 10] = [
         words: "p",
         source: "1 + \"dog\"",
         status: Status::Done,
-        report: "The value at time 0 is `error`.\np:1:3:\n1 + \"dog\"\n  ^\nAt time 0 `+` gets 1 and dog: it wants two integers.\nStrings, as `red' and `blue', are joined by `^`, and lists by `<>`.\n",
+        report: "The value at time 0 is `error`.\np:1:3:\n1 + \"dog\"\n  ^\nAt time 0 `+` gets 1 and dog: it wants two integers.\nStrings, as `red' and `blue', are joined by `^`, and lists by `<>`. \"red\" is a word, and words aren't joined.\n",
     },
     Row {
         words: "p",

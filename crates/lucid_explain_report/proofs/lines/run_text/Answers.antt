@@ -2,8 +2,7 @@ use Rattle.lucid_explain_report.proofs.Common.{sym, ◌∙◌}
 use Rattle.lucid_explain_report.proofs.lines.run_text.Goals as goal
 
 pub returns-then-begins : goal.returns-then-begins
-returns-then-begins c =
-    rw (sym c.begins.ensures ∙ c.if-begins.true)
+returns-then-begins c = rw (sym c.begins.ensures ∙ c.if-begins.true) c.given_text.ensures
 
 pub returns-then-begins-4 : goal.returns-then-begins-4
 returns-then-begins-4 c =
