@@ -1,6 +1,7 @@
 """A run, step by step, over real files. What is looked for first, what stays under a policy and what is dropped are written by hand, by the rules."""
 import os
 
+from drawn import SHOWN
 from harness import case, check, lines, shown
 from shown_demands import FIB, USAGE
 
@@ -161,6 +162,29 @@ def the_lines_are_those_of_the_run(run):
             out = run.showing().lucid("--steps", *words).must().out.decode()
             said = [it.split("   (")[0].removeprefix("writes ") for it in out.splitlines() if it.startswith("writes ")]
             check(lines(*said) == wanted, f"{words}: {shown(said)}, not {shown(wanted)}")
+
+
+@case
+def each_program_that_is_drawn_is_run_step_by_step(run):
+    """Its lines are those of the run, and its figures count its own lines of values."""
+    for name, (source, _, inputs) in SHOWN.items():
+        run.source(source, "q")
+        for file, text in inputs.items():
+            run.write(file, text)
+        words = ["--count=4", "q", *(f"{it}={it}" for it in inputs)]
+        ended = run.lucid(*words)
+        told = run.showing().lucid("--steps", "--cells=1000000", *words)
+        check(told.status == ended.status, f"{name}: {told.status}, not {ended.status}")
+        written, computed, found = [], 0, 0
+        for it in told.out.decode().splitlines():
+            computed, found = computed + it.startswith("  computes "), found + it.startswith("  finds ")
+            if it.startswith("writes "):
+                line, _, figures = it.removeprefix("writes ").rpartition("   (")
+                check(figures == f"{computed} computed, {found} found)", f"{name}: {it}")
+                written.append(line)
+        wanted = ended.out.decode().splitlines()
+        check(len(written) == len(wanted) and computed > 0, f"{name}: {shown(written)}, not {shown(wanted)}")
+        check(all(a == b or ".. (" in a for a, b in zip(written, wanted)), f"{name}: {shown(written)}, not {shown(wanted)}")
 
 
 @case
