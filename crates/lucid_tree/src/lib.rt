@@ -17,7 +17,6 @@ mod definitions;
 mod depth;
 mod form;
 pub mod form_laws;
-mod form_rows;
 pub mod laws;
 mod lists;
 mod make;
