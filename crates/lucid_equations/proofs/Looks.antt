@@ -23,7 +23,7 @@ pub of_each : (P : Step → Type 0) (n : ℕ) (x : Step) (k : ℕ → Step) → 
 of_each P zero x k first later = first refl
 of_each P (suc n) x k first later = later n refl
 
-within : (i count n : ℕ) → i < count → count ≤ n → i < n
+pub within : (i count n : ℕ) → i < count → count ≤ n → i < n
 within i count n l h = omega (arith, l, h)
 
 module _ (n : ℕ) (p : Place) (space : p.space ≤ last) where
