@@ -16,24 +16,16 @@ space_there (then.Find w) t s h = h
 space_there (then.Count seen until) t s h = h.1
 space_there (then.Argument op) t s h = h.1
 space_there then.Give t s h = h.1
-space_there then.Choose t s h = h.1
-space_there then.Both t s h = h.1
-space_there then.Either t s h = h.1
 space_there then.Judge t s h = h.1
-space_there then.Time t s h = h.1
-space_there then.Space t s h = h.1
+space_there (then.Decide f) t s h = h.1
 
 small_there : (k : ℕ) (x : Then) (i t : ℕ) → IsAfter k x i t → t ≤ last → IsSmall x i t
 small_there k (then.Find w) i t h l = omega (arith, l)
 small_there k (then.Count seen until) i t h l = h
 small_there k (then.Argument op) i t h l = h.1
 small_there k then.Give i t h l = tt
-small_there k then.Choose i t h l = tt
-small_there k then.Both i t h l = tt
-small_there k then.Either i t h l = tt
 small_there k then.Judge i t h l = tt
-small_there k then.Time i t h l = tt
-small_there k then.Space i t h l = tt
+small_there k (then.Decide f) i t h l = h
 
 module _ (T : Table) (known : List Context) (js : List PlainJudgment) (w : Making) (h : IsWaiting T known js w) where
   -- It waits for a look.

@@ -4,6 +4,7 @@ use Rattle.std.proofs.Common.{Bool}
 use Rattle.std.proofs.lemmas.Bool.{leb-false}
 use Rattle.lucid_tree.specs.declared.form.Form.{Form}
 use Rattle.lucid_tree.specs.declared.form.Form.TheVariants as forms
+use Rattle.lucid_tree.specs.Forms.{part_count}
 use Rattle.lucid_equations.specs.declared.answer.Answer.{Answer}
 use Rattle.lucid_equations.specs.declared.step.Place.{Place}
 use Rattle.lucid_equations.specs.declared.step.Given.TheVariants.{Truth}
@@ -11,7 +12,7 @@ use Rattle.lucid_equations.specs.declared.step.Step.{Step}
 use Rattle.lucid_equations.specs.declared.step.Step.TheVariants as step
 use Rattle.lucid_equations.specs.Steps.{IsPoint, part_at, found, step_after}
 use Rattle.lucid_equations.proofs.Told.{by_its_answer, to_its_point}
-use Rattle.lucid_equations.proofs.Looks.{of_both}
+use Rattle.lucid_equations.proofs.Looks.{of_both, within}
 use Rattle.lucid_cert_rules.specs.Told.{IsDecided, EndsSearch, StepInside}
 
 -- a form that looks at its point goes on with no search
@@ -57,21 +58,19 @@ wants_more p a x b e on holds =
 
 -- What is looked at after a look, by the form that looked at its point,
 module _ (n : ℕ) (p : Place) (a : Answer) where
-  pub if_inside : 2 < n → p.time ≤ last → p.space ≤ last → StepInside n (step_after forms.If p a)
-  if_inside h t s =
-      by_its_answer (StepInside n) a (step.Part (part_at 1 p.time p.space)) (step.Part (part_at 2 p.time p.space)) (omega (arith, h), t, s) (omega (arith, h), t, s) tt tt
-
-  pub and_inside : 1 < n → p.time ≤ last → p.space ≤ last → StepInside n (step_after forms.And p a)
-  and_inside h t s = by_its_answer (StepInside n) a (step.Judge (part_at 1 p.time p.space)) (step.Give (Truth false)) (h, t, s) tt tt tt
-
-  pub or_inside : 1 < n → p.time ≤ last → p.space ≤ last → StepInside n (step_after forms.Or p a)
-  or_inside h t s = by_its_answer (StepInside n) a (step.Give (Truth true)) (step.Judge (part_at 1 p.time p.space)) tt (h, t, s) tt tt
-
-  pub attime_inside : 0 < n → IsPoint a → p.space ≤ last → StepInside n (step_after forms.Attime p a)
-  attime_inside h i s = to_its_point (StepInside n) a (λ u. step.Part (part_at 0 u p.space)) (λ u e. (h, subst IsPoint e i, s)) tt tt
-
-  pub atspace_inside : 0 < n → IsPoint a → p.time ≤ last → StepInside n (step_after forms.Atspace p a)
-  atspace_inside h i t = to_its_point (StepInside n) a (λ r. step.Part (part_at 0 p.time r)) (λ r e. (h, t, subst IsPoint e i)) tt tt
+  pub decided_inside : (f : Form) → IsDecided f → part_count f ≤ n → IsPoint a → p.time ≤ last → p.space ≤ last → StepInside n (step_after f p a)
+  decided_inside forms.If d c i t s =
+      by_its_answer (StepInside n) a (step.Part (part_at 1 p.time p.space)) (step.Part (part_at 2 p.time p.space)) (within 1 3 n (omega arith) c, t, s)
+      (within 2 3 n (omega arith) c, t, s) tt tt
+  decided_inside forms.And d c i t s =
+      by_its_answer (StepInside n) a (step.Judge (part_at 1 p.time p.space)) (step.Give (Truth false)) (within 1 2 n (omega arith) c, t, s) tt tt tt
+  decided_inside forms.Or d c i t s =
+      by_its_answer (StepInside n) a (step.Give (Truth true)) (step.Judge (part_at 1 p.time p.space)) tt (within 1 2 n (omega arith) c, t, s) tt tt
+  decided_inside forms.Attime d c i t s =
+      to_its_point (StepInside n) a (λ u. step.Part (part_at 0 u p.space)) (λ u e. (within 0 2 n (omega arith) c, subst IsPoint e i, s)) tt tt
+  decided_inside forms.Atspace d c i t s =
+      to_its_point (StepInside n) a (λ r. step.Part (part_at 0 p.time r)) (λ r e. (within 0 2 n (omega arith) c, t, subst IsPoint e i)) tt tt
+  decided_inside f d c i t s = absurd d
 
   -- and by a search.
   pub whenever_inside : 0 < n → p.reached ≤ last → p.space ≤ last → (x : Step) → x ≡ step_after forms.Whenever p a → StepInside n x

@@ -17,7 +17,7 @@ pub use Rattle.lucid_tags.specs.Contexts.{Context, call_frame, frozen_frame, roo
 pub use Rattle.lucid_tags.specs.Known.{context_of}
 pub use Rattle.lucid_tree.specs.Levels.{Elements, element_of, goes_to, nowhere}
 pub use Rattle.lucid_tree.specs.Rows.{Look, Plan, at_zero, by_test, count_true, find_true, gives, gives_part, last, looks, plan}
-pub use Rattle.lucid_tree.specs.Tree.{Head, apply, fby, next, sby, succ, upon}
+pub use Rattle.lucid_tree.specs.Tree.{Head, apply}
 pub use Rattle.lucid_value.specs.Plain.{PlainValue}
 pub use Rattle.lucid_cert_rules.specs.Certificates.{PlainJudgment}
 pub use Rattle.std.proofs.Common.{Bool, List, None, Option, Some, [], add-one, ap, append_assoc, arith, cond, drop, false, get_or, inl, inr, length, refl, subst, suc, sym, true, zero, ℕ, ◌++◌, ◌+◌, ◌-◌, ◌<◌, ◌↔◌, ◌∙◌, ◌∷◌, ◌≡◌, ◌≤◌, ◌⊎◌}

@@ -1,12 +1,14 @@
 -- What a node gives, by its row.
-use Rattle.lucid_cert_rules.proofs.FollowingCommon.{◌≡◌, ℕ, ◌+◌, Bool, true, List, [], ◌∷◌, length, Option, Some, get_or, refl, sym, ap, ◌∙◌, subst, slice_get, option_and_then, same_Some, arity, Head, apply, next, fby, upon, succ, sby, plan, Elements, element_of, Context, frozen_frame, PlainNode, row, freeze, reference, invoke, PlainNodes, number_aim, node_at, node_by, row_at, parts, Node, Table, PlainJudgment, fed, only, part_number, onward, of_part, by_onward, by_node, given, used, context_in, FollowsIn, HasHead, ◌↔◌}
-use Rattle.lucid_tree.specs.Tree.{const, choose, both, either, first, whenever, asa, attime, initial, atspace}
+use Rattle.lucid_cert_rules.proofs.FollowingCommon.{◌≡◌, ℕ, ◌+◌, Bool, true, List, [], length, Option, Some, None, get_or, refl, sym, ap, ◌∙◌, subst, slice_get, option_and_then, same_Some, arity, Head, apply, plan, Elements, element_of, Context, frozen_frame, PlainNode, row, freeze, reference, invoke, PlainNodes, number_aim, node_at, node_by, row_at, parts, Node, Table, PlainJudgment, fed, only, part_number, onward, of_part, by_onward, by_node, given, used, context_in, FollowsIn, HasHead, ◌↔◌}
+use Rattle.lucid_tree.specs.declared.form.Form.{Form}
+use Rattle.lucid_tree.specs.Tree.{const, stream}
 use Rattle.lucid_equations.specs.Nodes.{no_nodes, input, refer}
 use Rattle.lucid_equations.specs.NumberAims.{row_aim}
-use Rattle.lucid_equations.specs.Rows.{nodes_of, at, all_at, constant_at}
+use Rattle.lucid_equations.specs.Rows.{nodes_of, at, all_at, constant_at, read}
 use Rattle.lucid_equations.specs.declared.rows.Node.TheVariants as rows
+use Rattle.lucid_equations.proofs.Formed.{is_form_node}
 use Rattle.lucid_cert_rules.specs.Follows.{Judged, HasForm}
-use Rattle.lucid_cert_rules.specs.RestPlans.{IsForm}
+use Rattle.lucid_cert_rules.specs.RestPlans.{IsForm, IsRead}
 use Rattle.lucid_cert_rules.specs.Checking.{PassesOn, row_onward}
 
 -- a form has a head, and its node is that with parts
@@ -16,27 +18,28 @@ pub record IsOfForm (T : Table) (n : Node) : Type 0 where
   pub nodes : PlainNodes
   pub is : node_by T n ≡ row head nodes
 
+-- a form over streams was read
+abbrev IsThere : Option (Form × List ℕ) → Type 0
+IsThere None = ⊥
+IsThere (Some p) = Unit {0}
+
+has_read : (T : Table) (n : Node) (p : Form × List ℕ) → read n ≡ Some p → HasHead T n (stream p.0)
+has_read T (rows.Const k) p e = absurd (subst IsThere (sym e) tt)
+has_read T (rows.Apply op args) p e = absurd (subst IsThere (sym e) tt)
+has_read T n p e = subst (λ (o : Option (Form × List ℕ)). IsRead o (stream p.0)) (sym e) refl
+
+of_read : (T : Table) (n : Node) (o : Option (Form × List ℕ)) → read n ≡ o → IsThere o → IsOfForm T n
+of_read T n None e there = absurd there
+of_read T n (Some p) e there = record { head = stream p.0; has = has_read T n p e; nodes = all_at (nodes_of T) p.1; is = (is_form_node n p e).node_is T }
+
 pub of_form : (T : Table) (n : Node) → IsForm n → IsOfForm T n
 of_form T (rows.Const k) h = record { head = const (constant_at T k); has = refl; nodes = no_nodes; is = refl }
 of_form T (rows.Input k) h = absurd h
 of_form T (rows.Apply op args) h = record { head = apply op (arity op); has = refl; nodes = all_at (nodes_of T) (parts (rows.Apply op args)); is = refl }
-of_form T (rows.If a b c) h = record { head = choose; has = refl; nodes = all_at (nodes_of T) (a ∷ b ∷ c ∷ []); is = refl }
-of_form T (rows.And a b) h = record { head = both; has = refl; nodes = all_at (nodes_of T) (a ∷ b ∷ []); is = refl }
-of_form T (rows.Or a b) h = record { head = either; has = refl; nodes = all_at (nodes_of T) (a ∷ b ∷ []); is = refl }
-of_form T (rows.First a) h = record { head = first; has = refl; nodes = all_at (nodes_of T) (a ∷ []); is = refl }
-of_form T (rows.Next a) h = record { head = next; has = refl; nodes = all_at (nodes_of T) (a ∷ []); is = refl }
-of_form T (rows.Fby a b) h = record { head = fby; has = refl; nodes = all_at (nodes_of T) (a ∷ b ∷ []); is = refl }
-of_form T (rows.Whenever a b) h = record { head = whenever; has = refl; nodes = all_at (nodes_of T) (a ∷ b ∷ []); is = refl }
-of_form T (rows.Asa a b) h = record { head = asa; has = refl; nodes = all_at (nodes_of T) (a ∷ b ∷ []); is = refl }
-of_form T (rows.Upon a b) h = record { head = upon; has = refl; nodes = all_at (nodes_of T) (a ∷ b ∷ []); is = refl }
-of_form T (rows.Attime a b) h = record { head = attime; has = refl; nodes = all_at (nodes_of T) (a ∷ b ∷ []); is = refl }
-of_form T (rows.Initial a) h = record { head = initial; has = refl; nodes = all_at (nodes_of T) (a ∷ []); is = refl }
-of_form T (rows.Succ a) h = record { head = succ; has = refl; nodes = all_at (nodes_of T) (a ∷ []); is = refl }
-of_form T (rows.Sby a b) h = record { head = sby; has = refl; nodes = all_at (nodes_of T) (a ∷ b ∷ []); is = refl }
-of_form T (rows.Atspace a b) h = record { head = atspace; has = refl; nodes = all_at (nodes_of T) (a ∷ b ∷ []); is = refl }
 of_form T (rows.Freeze a) h = absurd h
 of_form T (rows.Refer n l) h = absurd h
 of_form T (rows.Call n q l) h = absurd h
+of_form T n h = of_read T n (read n) refl tt
 
 module _ (T : Table) (b : Elements) (value : Judged) (id : ℕ) (n : Node) (there : row_at T id ≡ Some n) (is : node_at T id ≡ node_by T n) (c : Context)
     (t s : ℕ) (us : List ℕ) where

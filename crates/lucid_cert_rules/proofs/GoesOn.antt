@@ -1,5 +1,5 @@
 -- What is left of a plan once a look has a value is the plan of the step that the form takes by what the value tells.
-use Rattle.lucid_cert_rules.proofs.FollowingCommon.{◌≡◌, ℕ, suc, ◌-◌, false, true, List, sym, ap, ◌∙◌, subst, arith, le-leb, PlainValue, Op, Plan, gives, gives_part, by_test, at_zero, find_true, count_true, AreFedAlike, Then}
+use Rattle.lucid_cert_rules.proofs.FollowingCommon.{◌≡◌, ℕ, suc, ◌-◌, false, true, List, refl, sym, ap, ◌∙◌, subst, arith, le-leb, PlainValue, Op, Plan, gives, gives_part, by_test, at_zero, find_true, count_true, AreFedAlike, Then}
 use Rattle.std.proofs.Common.{◌≤◌, Bool}
 use Rattle.std.specs.Prelude.{if◌then◌else◌}
 use Rattle.lucid_tree.specs.declared.form.Form.{Form}
@@ -7,16 +7,15 @@ use Rattle.lucid_tree.specs.declared.form.Form.TheVariants as forms
 use Rattle.lucid_tree.specs.Rows.{nothing}
 use Rattle.lucid_equations.specs.declared.answer.Answer.{Answer}
 use Rattle.lucid_equations.specs.declared.step.Place.{Place}
-use Rattle.lucid_equations.specs.declared.step.Given.TheVariants.{Truth}
 use Rattle.lucid_equations.specs.declared.step.Step.{Step}
 use Rattle.lucid_equations.specs.declared.step.Step.TheVariants as step
-use Rattle.lucid_equations.specs.Steps.{answer_of, part_at, judged, given_value, one_more, found, step_after, step_plan}
-use Rattle.lucid_equations.proofs.Told.{test_told, place_told, truth_told}
+use Rattle.lucid_equations.specs.Steps.{answer_of, judged, given_value, one_more, found, step_after, step_plan}
+use Rattle.lucid_equations.proofs.Told.{test_told, truth_told}
 use Rattle.lucid_equations.proofs.Plans.{found_is}
 use Rattle.lucid_cert_rules.specs.RestPlans.{by_then}
-use Rattle.lucid_cert_rules.specs.Told.{at_limit, looked_from, told_plan}
+use Rattle.lucid_cert_rules.specs.Told.{at_limit, at_point, looked_from, told_plan}
 use Rattle.lucid_cert_rules.specs.declared.rest.Look.{Look}
-use Rattle.lucid_cert_rules.specs.declared.rest.Then.TheVariants.{Give, Choose, Both, Either, Judge, Time, Space, Find, Count, Argument}
+use Rattle.lucid_cert_rules.specs.declared.rest.Then.TheVariants.{Give, Judge, Decide, Find, Count, Argument}
 use Rattle.lucid_cert_rules.proofs.Alike.{alike, alike_then}
 
 -- A count that goes on, within its limit.
@@ -83,30 +82,15 @@ module _ (most m : ℕ) (vs : List PlainValue) (i t s : ℕ) (v : PlainValue) (a
 
   -- where a form stands that looked at its point
   abbrev here : Place
-  here = record { time = t; space = s; limit = t; reached = t; count = 0 }
+  here = at_point t s
 
-  one : (f : Form) (kind : Then) → th ≡ kind → by_then m vs kind i t s v ≡ step_plan f here (step_after f here (answer_of v)) → q ≡ told_plan f here a → GoesOn
-  one f kind e is h = stepped f here kind e is (alike most (told_plan f here a) q (sym h))
-
-  pub goes_choose : th ≡ Choose → q ≡ told_plan forms.If here a → GoesOn
-  goes_choose e = one forms.If Choose e (test_told forms.If here v (step.Part (part_at 1 t s)) (step.Part (part_at 2 t s)))
-
-  pub goes_both : th ≡ Both → q ≡ told_plan forms.And here a → GoesOn
-  goes_both e = one forms.And Both e (test_told forms.And here v (step.Judge (part_at 1 t s)) (step.Give (Truth false)))
-
-  pub goes_either : th ≡ Either → q ≡ told_plan forms.Or here a → GoesOn
-  goes_either e = one forms.Or Either e (test_told forms.Or here v (step.Give (Truth true)) (step.Judge (part_at 1 t s)))
+  pub goes_decide : (f : Form) → th ≡ Decide f → q ≡ told_plan f here a → GoesOn
+  goes_decide f e h = stepped f here (Decide f) e refl (alike most (told_plan f here a) q (sym h))
 
   pub goes_judge : th ≡ Judge → q ≡ gives (given_value (judged a)) → GoesOn
   goes_judge e h =
       by Judge e (alike most (by_then m vs Judge i t s v) q
       (ap gives (truth_told v ∙ ap (λ (x : Answer). given_value (judged x)) (sym told)) ∙ sym h))
-
-  pub goes_time : th ≡ Time → q ≡ told_plan forms.Attime here a → GoesOn
-  goes_time e = one forms.Attime Time e (place_told forms.Attime here v (λ u. step.Part (part_at 0 u s)))
-
-  pub goes_space : th ≡ Space → q ≡ told_plan forms.Atspace here a → GoesOn
-  goes_space e = one forms.Atspace Space e (place_told forms.Atspace here v (λ r. step.Part (part_at 0 t r)))
 
   -- a search, for an approximation
   pub goes_find : (w : ℕ) → th ≡ Find w → AreFedAlike most (told_plan forms.Whenever (record { time = w; space = s; limit = m; reached = t; count = 0 }) a) q

@@ -7,8 +7,8 @@ pub mod LinesRead
 pub mod Laws
 pub mod Fed
 pub mod Follows
-pub mod RestPlans
 pub mod Told
+pub mod RestPlans
 pub mod Checking
 pub mod Meant
 pub mod Cells

@@ -1,21 +1,24 @@
 -- The plans that what is left of a form stands for, and what the looks on the way were.
-use Rattle.std.specs.Prelude.{◌≡◌, ℕ, true, false, suc, ◌+◌, ◌-◌, ◌<◌, ◌≤◌, ◌^◌, List, [], ◌∷◌, ◌++◌, length, Option, Some, None}
+use Rattle.std.specs.Prelude.{◌≡◌, ℕ, suc, ◌+◌, ◌-◌, ◌<◌, ◌≤◌, ◌^◌, List, [], ◌∷◌, ◌++◌, length, Option, Some, None}
 use Rattle.lucid_value.specs.Plain.{PlainValue, truth, eod, fault}
 use Rattle.lucid_value.specs.View.{plain}
 use Rattle.lucid_ops.specs.Algebra.{algebra}
 use Rattle.lucid_ops.specs.Arity.{arity}
 use Rattle.lucid_tree.specs.declared.form.Form.{Form}
+use Rattle.lucid_tree.specs.Forms.{part_count}
 use Rattle.lucid_tree.specs.Tree.{Head, const, apply, stream}
 use Rattle.lucid_tree.specs.Members.{Inside}
-use Rattle.lucid_tree.specs.Rows.{Plan, last, gives, looks, look, gives_part, by_test, by_place, only_truth, at_zero, arguments, find_true, count_true, Reader}
+use Rattle.lucid_tree.specs.Rows.{Plan, last, gives, looks, look, gives_part, by_test, only_truth, at_zero, arguments, find_true, count_true, Reader}
 use Rattle.lucid_tree.specs.PlanLaws.{points_of}
 use Rattle.lucid_equations.specs.Rows.{constant_at, read}
+use Rattle.lucid_equations.specs.Steps.{answer_of}
 use Rattle.lucid_equations.specs.declared.rows.Node.{Node}
 use Rattle.lucid_equations.specs.declared.rows.Node.TheVariants as node
 use Rattle.lucid_equations.specs.declared.table.Table.{Table}
 use Rattle.lucid_cert_rules.specs.Fed.{Uses, fed}
+use Rattle.lucid_cert_rules.specs.Told.{IsDecided, at_point, told_plan}
 use Rattle.lucid_cert_rules.specs.declared.rest.Then.{Then}
-use Rattle.lucid_cert_rules.specs.declared.rest.Then.TheVariants.{Give, Choose, Both, Either, Judge, Time, Space, Find, Count, Argument}
+use Rattle.lucid_cert_rules.specs.declared.rest.Then.TheVariants.{Give, Judge, Decide, Find, Count, Argument}
 use Rattle.lucid_cert_rules.specs.declared.rest.Look.{Look}
 use Rattle.lucid_cert_rules.specs.declared.rest.Rest.{Rest}
 use Rattle.lucid_cert_rules.specs.declared.rest.Rest.TheVariants as rest
@@ -49,19 +52,11 @@ OnlyMoves (node.Succ a) = Unit {0}
 OnlyMoves (node.Sby a b) = Unit {0}
 OnlyMoves _ = ⊥
 
--- the second side of `and` and `or` decides
-abbrev pub second_side : (time space : ℕ) → Plan
-second_side t s = look 1 t s 0 (λ b. gives (only_truth b))
-
 -- What the plan goes on with once a look has a value, at a limit and after looks with these values.
 abbrev pub by_then : (limit : ℕ) → (values : List PlainValue) → Then → (part time space : ℕ) → PlainValue → Plan
 by_then m vs Give i t s v = gives v
-by_then m vs Choose i t s v = by_test v (gives_part 1 t s) (gives_part 2 t s)
-by_then m vs Both i t s v = by_test v (second_side t s) (gives (truth false))
-by_then m vs Either i t s v = by_test v (gives (truth true)) (second_side t s)
 by_then m vs Judge i t s v = gives (only_truth v)
-by_then m vs Time i t s v = by_place v (λ u. gives_part 0 u s)
-by_then m vs Space i t s v = by_place v (λ r. gives_part 0 t r)
+by_then m vs (Decide f) i t s v = told_plan f (at_point t s) (answer_of v)
 by_then m vs (Find n) i t s v = by_test v (at_zero n (gives_part 0 t s) (λ k. find_true (m - suc t) (suc t) k s)) (find_true (m - suc t) (suc t) n s)
 by_then m vs (Count n until) i t s v = by_test v (count_true (until - suc t) (suc t) (suc n) s until) (count_true (until - suc t) (suc t) n s until)
 by_then m vs (Argument op) i t s v = looks (arguments (arity op - suc i) (suc i) t s) (λ ws. gives (algebra op ((vs ++ v ∷ []) ++ ws)))
@@ -84,8 +79,10 @@ rest_plan m vs rest.End = gives eod
 rest_plan m vs rest.Fault = gives fault
 rest_plan m vs (rest.Apply op) = gives (algebra op vs)
 
--- After so many looks a search is at the time that is their number, a count is below its time, and an operator has the argument.
+-- After so many looks a search is at the time that is their number, a count is below its time, and an operator has the argument. A form
+-- that takes its step by a value is one that a value decides.
 abbrev pub IsAfter : (looks : ℕ) → Then → (part time : ℕ) → Type 0
+IsAfter k (Decide f) i t = IsDecided f
 IsAfter k (Find n) i t = t ≡ k
 IsAfter k (Count n until) i t = (t < until) × ((n ≤ t) × (until < 2 ^ 63))
 IsAfter k (Argument op) i t = (i ≡ k) × (i < arity op)
@@ -96,6 +93,7 @@ CanGoOn k l = IsAfter k l.then l.part l.time
 
 -- no time past the last number of the machine is looked at
 abbrev pub IsSmall : Then → (part time : ℕ) → Type 0
+IsSmall (Decide f) i t = IsDecided f
 IsSmall (Find n) i t = t + 1 < 2 ^ 64
 IsSmall (Count n until) i t = (t < until) × ((n ≤ t) × (until < 2 ^ 63))
 IsSmall (Argument op) i t = i < arity op
@@ -112,11 +110,7 @@ Stands k _ = Unit {0}
 
 -- With so many parts, those that are looked at by what is done with a value are there.
 abbrev pub PartsFor : Then → (count : ℕ) → Type 0
-PartsFor Choose n = 2 < n
-PartsFor Both n = 1 < n
-PartsFor Either n = 1 < n
-PartsFor Time n = 0 < n
-PartsFor Space n = 0 < n
+PartsFor (Decide f) n = part_count f ≤ n
 PartsFor (Find w) n = 1 < n
 PartsFor (Count seen until) n = 1 < n
 PartsFor (Argument op) n = arity op ≤ n

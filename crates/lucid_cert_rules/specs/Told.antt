@@ -22,6 +22,10 @@ at_limit m p = record p { limit = m }
 abbrev pub told_plan : Form → Place → Answer → Plan
 told_plan f p a = step_plan f p (step_after f p a)
 
+-- where a form stands at a point before it has looked
+abbrev pub at_point : (time space : ℕ) → Place
+at_point t s = record { time = t; space = s; limit = t; reached = t; count = 0 }
+
 -- the form looks at its point, and its value decides
 abbrev pub IsDecided : Form → Type 0
 IsDecided forms.If = Unit {0}

@@ -4,15 +4,17 @@ ghost use Rattle.lucid_value.specs.Plain.{PlainValue};
 ghost use Rattle.lucid_value.specs.View.{plain};
 ghost use Rattle.lucid_ops.specs.Arity.{arity};
 ghost use Rattle.lucid_tree.specs.declared.form.Form.TheVariants as forms;
-ghost use Rattle.lucid_tree.specs.Tree.{Head};
+ghost use Rattle.lucid_tree.specs.Forms.{part_count};
+ghost use Rattle.lucid_tree.specs.Tree.{Head, stream};
 ghost use Rattle.lucid_tree.specs.Rows.{gives, gives_part, count_true, find_true, last, plan};
-ghost use Rattle.lucid_equations.specs.Steps.{given_value, step_after, step_plan};
+ghost use Rattle.lucid_equations.specs.Steps.{given_value, part_at, start_of, step_after, step_plan};
+ghost use Rattle.lucid_equations.specs.declared.step.Start.TheVariants as start;
 ghost use Rattle.lucid_equations.specs.Programs.{table_of};
 ghost use Rattle.lucid_equations.specs.Ranges.{NodeNames, sizes};
 ghost use Rattle.lucid_equations.specs.Rows.{parts};
 ghost use Rattle.lucid_equations.specs.declared.table.Table.{Table};
 ghost use Rattle.lucid_cert_rules.specs.RestPlans.{IsForm, OnlyMoves, HasHead, by_then, rest_plan, CanGoOn, MayGoOn, Stands, IsLookOf, LooksInside, AreFedAlike};
-ghost use Rattle.lucid_cert_rules.specs.Told.{EndsSearch, IsDecided, StepInside, at_limit, looked_from, told_plan};
+ghost use Rattle.lucid_cert_rules.specs.Told.{EndsSearch, IsDecided, StepInside, at_limit, at_point, looked_from, told_plan};
 ghost use Rattle.lucid_cert_rules.specs.declared.rest.Then.TheVariants as then;
 ghost use Rattle.lucid_cert_rules.specs.declared.rest.Rest.TheVariants as rest;
 
@@ -26,18 +28,10 @@ use lucid_value::Value;
 pub enum Then {
     /// It is the form's.
     Give,
-    /// It chooses part 1 or part 2.
-    Choose,
-    /// Where it is true, part 1 decides, and where it is false, it does.
-    Both,
-    /// Where it is false, part 1 decides, and where it is true, it does.
-    Either,
     /// It is the form's where it is a truth or the end of data.
     Judge,
-    /// It is the time at which part 0 is looked at.
-    Time,
-    /// It is the space at which part 0 is looked at.
-    Space,
+    /// The form looked at its point, and takes its step by what the value tells.
+    Decide { form: Form },
     /// Where it is true, and none more is wanted, part 0 is looked at; else the search goes on.
     Find { wanted: u64 },
     /// It is counted, where it is true, until a time; then part 0 is looked at, at the time that is the count.
@@ -238,12 +232,8 @@ impl Look {
         let answer = Answer::of(value);
         match self.then {
             Then::Give => Rest::Value(value),
-            Then::Choose => self.decide(Form::If, answer),
-            Then::Both => self.decide(Form::And, answer),
-            Then::Either => self.decide(Form::Or, answer),
             Then::Judge => settled(judged(answer)),
-            Then::Time => self.decide(Form::Attime, answer),
-            Then::Space => self.decide(Form::Atspace, answer),
+            Then::Decide { form } => self.decide(form, answer),
             Then::Find { wanted } => self.find(answer, wanted),
             Then::Count { seen, until } => self.count(answer, seen, until),
             Then::Argument { op } => self.argument(op),
@@ -315,6 +305,17 @@ fn here(part: u32, time: u64, space: u64, then: Then) -> Rest<'static>
     })
 }
 
+// The plan of a form that looks at a part at its point, and takes its step by the value.
+fn deciding(form: Form, part: u32, time: u64, space: u64) -> Rest<'static>
+    requires decided { IsDecided form }
+    requires look { start_of form (at_point time space) ≡ start.Look (part_at part time space) }
+    ensures plan { (m : ℕ) (vs : List PlainValue) → rest_plan m vs result ≡ plan m (stream form) time space }
+    ensures stands { (k : ℕ) → Stands k result }
+    ensures inside { time ≤ last → space ≤ last → LooksInside (part_count form) result }
+{
+    here(part, time, space, Then::Decide { form })
+}
+
 /// The plan of a form at a point.
 pub fn begin<'a>(program: &'a Program, node: Node, time: u64, space: u64) -> Rest<'a>
     requires form { IsForm node }
@@ -327,14 +328,14 @@ pub fn begin<'a>(program: &'a Program, node: Node, time: u64, space: u64) -> Res
     match node {
         Node::Const { constant } => Rest::Value(program.constant(constant)),
         Node::Apply { op, .. } => here(0, time, space, Then::Argument { op }),
-        Node::If { .. } => here(0, time, space, Then::Choose),
-        Node::And { .. } => here(0, time, space, Then::Both),
-        Node::Or { .. } => here(0, time, space, Then::Either),
+        Node::If { .. } => deciding(Form::If, 0, time, space),
+        Node::And { .. } => deciding(Form::And, 0, time, space),
+        Node::Or { .. } => deciding(Form::Or, 0, time, space),
         Node::Whenever { .. } => search(space, time),
         Node::Asa { .. } => search(space, 0),
         Node::Upon { .. } => count_below(time, space),
-        Node::Attime { .. } => here(1, time, space, Then::Time),
-        Node::Atspace { .. } => here(1, time, space, Then::Space),
+        Node::Attime { .. } => deciding(Form::Attime, 1, time, space),
+        Node::Atspace { .. } => deciding(Form::Atspace, 1, time, space),
         Node::Input { .. } | Node::Freeze { .. } | Node::Refer { .. } | Node::Call { .. } => {
             unreachable!()
         }
