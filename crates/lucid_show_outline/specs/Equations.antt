@@ -10,7 +10,7 @@ use Rattle.lucid_tree.specs.Tree.{PlainTree}
 use Rattle.lucid_print.specs.Canonical.{Part, part, placed, parted, source}
 use Rattle.lucid_equations.specs.Rows.{row_at}
 use Rattle.lucid_equations.specs.declared.rows.Node.{Node}
-use Rattle.lucid_equations.specs.declared.rows.Node.TheVariants.{Const, Input, Apply, If, And, Or, First, Next, Fby, Whenever, Asa, Upon, Attime, Initial, Succ, Sby, Atspace, Freeze, Refer, Call}
+use Rattle.lucid_equations.specs.declared.rows.Node.TheVariants.{Const, Input, Apply, If, And, Or, Whenever, Asa, Upon, Attime, Atspace, Freeze, Refer, Call}
 use Rattle.lucid_cert_rules.specs.Certificates.{PlainJudgment}
 use Rattle.lucid_show_outline.specs.declared.does.Does.{Does}
 use Rattle.lucid_show_outline.specs.declared.does.Does.TheVariants.{Asks, Constant, Applies, Passes, Freezes, Chooses, Searches}
@@ -37,20 +37,14 @@ sentence s = part 0 s
 abbrev pub unknown : Part
 unknown = tight (codes "..")
 
--- What a node does with the judgments that it uses: it asks; it is a constant; an operator is applied to them; the one is passed on, or passed on in
--- the context that is entered; the first decides; or all but what is found are tests of the part of this number.
+-- What a node does with the judgments that it uses: it asks; it is a constant; an operator is applied to them; the one is passed on in the context that
+-- is entered; the first decides; all but what is found are tests of the part of this number; or, where it only moves the point, the one is passed on.
 unfoldable pub does : Node → Does
 does (Const k) = Constant
 does (Input k) = Asks
 does (Refer n l) = Asks
 does (Call n p l) = Asks
 does (Apply op args) = Applies op
-does (First a) = Passes
-does (Next a) = Passes
-does (Fby a b) = Passes
-does (Initial a) = Passes
-does (Succ a) = Passes
-does (Sby a b) = Passes
 does (Freeze a) = Freezes
 does (If a b c) = Chooses
 does (And a b) = Chooses
@@ -60,6 +54,7 @@ does (Atspace a b) = Chooses
 does (Whenever a b) = Searches b
 does (Asa a b) = Searches b
 does (Upon a b) = Searches b
+does _ = Passes
 
 -- the uses whose own texts are told: of a search the last alone, and none of what asks, which is told by its name
 unfoldable pub told_uses : Does → List ℕ → List ℕ

@@ -35,12 +35,6 @@ impl Does {
             Node::Input { .. } | Node::Refer { .. } | Node::Call { .. } => Does::Asks,
             Node::Const { .. } => Does::Constant,
             Node::Apply { op, .. } => Does::Applies(op),
-            Node::First { .. }
-            | Node::Next { .. }
-            | Node::Fby { .. }
-            | Node::Initial { .. }
-            | Node::Succ { .. }
-            | Node::Sby { .. } => Does::Passes,
             Node::Freeze { .. } => Does::Freezes,
             Node::If { .. }
             | Node::And { .. }
@@ -50,6 +44,8 @@ impl Does {
             Node::Whenever { right, .. } | Node::Asa { right, .. } | Node::Upon { right, .. } => {
                 Does::Searches(right)
             }
+            // The others only move the point.
+            _ => Does::Passes,
         }
     }
 
