@@ -55,5 +55,4 @@ mod Passes
 pub mod SearchForms
 mod Starting
 mod DecidingTaking
-mod Unmoved
 mod Within

@@ -295,10 +295,13 @@ pub fn decide(program: &Program, tasks: &Tasks, slot: usize) -> Decision
         Node::Attime { left, right } => ready.stream(tasks, Form::Attime, &[left, right]),
         Node::Atspace { left, right } => ready.stream(tasks, Form::Atspace, &[left, right]),
         Node::Refer { .. } | Node::Call { .. } => ready.refer(tasks),
-        // What only moves the point is passed before a row is made, so these stand at the last time or space.
-        Node::Next { .. } | Node::Succ { .. } => Decision::Fault,
-        Node::First { .. } | Node::Fby { .. } => unreachable!(),
-        Node::Initial { .. } | Node::Sby { .. } => unreachable!(),
+        // What only moves the point is passed before a row is made: of these, `next` and `succ` come here, at the last time and space.
+        Node::First { of } => ready.stream(tasks, Form::First, &[of]),
+        Node::Next { of } => ready.stream(tasks, Form::Next, &[of]),
+        Node::Fby { left, right } => ready.stream(tasks, Form::Fby, &[left, right]),
+        Node::Initial { of } => ready.stream(tasks, Form::Initial, &[of]),
+        Node::Succ { of } => ready.stream(tasks, Form::Succ, &[of]),
+        Node::Sby { left, right } => ready.stream(tasks, Form::Sby, &[left, right]),
         Node::Freeze { .. } => unreachable!(),
     }
 }

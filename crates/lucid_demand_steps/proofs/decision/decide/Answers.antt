@@ -1,12 +1,11 @@
 use Rattle.lucid_demand_steps.proofs.DecidingCommon.{[], ◌∷◌, ap, ◌∙◌, subst, node_by, NodeIsInRange, sizes}
-use Rattle.std.proofs.Common.{Some, inl, inr}
+use Rattle.std.proofs.Common.{Some}
 use Rattle.lucid_tree.specs.declared.form.Form.TheVariants as forms
 use Rattle.lucid_equations.specs.Programs.{table_of}
 use Rattle.lucid_equations.specs.Rows.{read}
 use Rattle.lucid_demand_steps.proofs.Deciding.{its_ready}
 use Rattle.lucid_demand_steps.proofs.FormNodes.{form_row}
 use Rattle.lucid_demand_steps.proofs.Leaves.{constant_decides}
-use Rattle.lucid_demand_steps.proofs.Unmoved.{next_ends, succ_ends, no_first, no_fby, no_initial, no_sby}
 use Rattle.lucid_demand_steps.proofs.decision.decide.Goals as goal
 
 pub returns-in-Const : goal.returns-in-Const
@@ -64,35 +63,38 @@ returns-in-Atspace g c = λ its there.
     (form_row (table_of c.args.program.now) g.known c.args.tasks.now c.args.slot c.requires c.task-task.result c.task-task.ensures c.node-node.result
     c.node-node.ensures.row c.node-node.ensures.meaning forms.Atspace (c.in-Atspace.left ∷ c.in-Atspace.right ∷ []) (ap read c.in-Atspace.is) its there)
 
+pub returns-in-First : goal.returns-in-First
+returns-in-First g c = λ its there.
+    c.stream-in-First.ensures (table_of c.args.program.now) g.known its
+    (form_row (table_of c.args.program.now) g.known c.args.tasks.now c.args.slot c.requires c.task-task.result c.task-task.ensures c.node-node.result
+    c.node-node.ensures.row c.node-node.ensures.meaning forms.First (c.in-First.of ∷ []) (ap read c.in-First.is) its there)
+
 pub returns-in-Next : goal.returns-in-Next
 returns-in-Next g c = λ its there.
-    elim c.in-Next.is [
-      | inl p ↦ next_ends (table_of c.args.program.now) g.known c.args.tasks.now c.args.slot c.task-task.result its (p.0 ∷ [])
-          (form_row (table_of c.args.program.now) g.known c.args.tasks.now c.args.slot c.requires c.task-task.result c.task-task.ensures c.node-node.result
-          c.node-node.ensures.row c.node-node.ensures.meaning forms.Next (p.0 ∷ []) (ap read p.1) its there)
-      | inr p ↦ succ_ends (table_of c.args.program.now) g.known c.args.tasks.now c.args.slot c.task-task.result its (p.0 ∷ [])
-          (form_row (table_of c.args.program.now) g.known c.args.tasks.now c.args.slot c.requires c.task-task.result c.task-task.ensures c.node-node.result
-          c.node-node.ensures.row c.node-node.ensures.meaning forms.Succ (p.0 ∷ []) (ap read p.1) its there)
-    ]
+    c.stream-in-Next.ensures (table_of c.args.program.now) g.known its
+    (form_row (table_of c.args.program.now) g.known c.args.tasks.now c.args.slot c.requires c.task-task.result c.task-task.ensures c.node-node.result
+    c.node-node.ensures.row c.node-node.ensures.meaning forms.Next (c.in-Next.of ∷ []) (ap read c.in-Next.is) its there)
 
-pub unreachable-requires : goal.unreachable-requires
-unreachable-requires g c =
-    elim c.in-First.is [
-      | inl p ↦ no_first (table_of c.args.program.now) g.known c.args.tasks.now c.args.slot c.task-task.result c.requires.row (p.0 ∷ [])
-          (form_row (table_of c.args.program.now) g.known c.args.tasks.now c.args.slot c.requires c.task-task.result c.task-task.ensures c.node-node.result
-          c.node-node.ensures.row c.node-node.ensures.meaning forms.First (p.0 ∷ []) (ap read p.1) c.requires.row c.requires.is.there)
-      | inr p ↦ no_fby (table_of c.args.program.now) g.known c.args.tasks.now c.args.slot c.task-task.result c.requires.row (p.0 ∷ p.1 ∷ [])
-          (form_row (table_of c.args.program.now) g.known c.args.tasks.now c.args.slot c.requires c.task-task.result c.task-task.ensures c.node-node.result
-          c.node-node.ensures.row c.node-node.ensures.meaning forms.Fby (p.0 ∷ p.1 ∷ []) (ap read p.2) c.requires.row c.requires.is.there)
-    ]
+pub returns-in-Fby : goal.returns-in-Fby
+returns-in-Fby g c = λ its there.
+    c.stream-in-Fby.ensures (table_of c.args.program.now) g.known its
+    (form_row (table_of c.args.program.now) g.known c.args.tasks.now c.args.slot c.requires c.task-task.result c.task-task.ensures c.node-node.result
+    c.node-node.ensures.row c.node-node.ensures.meaning forms.Fby (c.in-Fby.left ∷ c.in-Fby.right ∷ []) (ap read c.in-Fby.is) its there)
 
-pub unreachable-requires-in-Initial : goal.unreachable-requires-in-Initial
-unreachable-requires-in-Initial g c =
-    elim c.in-Initial.is [
-      | inl p ↦ no_initial (table_of c.args.program.now) g.known c.args.tasks.now c.args.slot c.task-task.result c.requires.row (p.0 ∷ [])
-          (form_row (table_of c.args.program.now) g.known c.args.tasks.now c.args.slot c.requires c.task-task.result c.task-task.ensures c.node-node.result
-          c.node-node.ensures.row c.node-node.ensures.meaning forms.Initial (p.0 ∷ []) (ap read p.1) c.requires.row c.requires.is.there)
-      | inr p ↦ no_sby (table_of c.args.program.now) g.known c.args.tasks.now c.args.slot c.task-task.result c.requires.row (p.0 ∷ p.1 ∷ [])
-          (form_row (table_of c.args.program.now) g.known c.args.tasks.now c.args.slot c.requires c.task-task.result c.task-task.ensures c.node-node.result
-          c.node-node.ensures.row c.node-node.ensures.meaning forms.Sby (p.0 ∷ p.1 ∷ []) (ap read p.2) c.requires.row c.requires.is.there)
-    ]
+pub returns-in-Initial : goal.returns-in-Initial
+returns-in-Initial g c = λ its there.
+    c.stream-in-Initial.ensures (table_of c.args.program.now) g.known its
+    (form_row (table_of c.args.program.now) g.known c.args.tasks.now c.args.slot c.requires c.task-task.result c.task-task.ensures c.node-node.result
+    c.node-node.ensures.row c.node-node.ensures.meaning forms.Initial (c.in-Initial.of ∷ []) (ap read c.in-Initial.is) its there)
+
+pub returns-in-Succ : goal.returns-in-Succ
+returns-in-Succ g c = λ its there.
+    c.stream-in-Succ.ensures (table_of c.args.program.now) g.known its
+    (form_row (table_of c.args.program.now) g.known c.args.tasks.now c.args.slot c.requires c.task-task.result c.task-task.ensures c.node-node.result
+    c.node-node.ensures.row c.node-node.ensures.meaning forms.Succ (c.in-Succ.of ∷ []) (ap read c.in-Succ.is) its there)
+
+pub returns-in-Sby : goal.returns-in-Sby
+returns-in-Sby g c = λ its there.
+    c.stream-in-Sby.ensures (table_of c.args.program.now) g.known its
+    (form_row (table_of c.args.program.now) g.known c.args.tasks.now c.args.slot c.requires c.task-task.result c.task-task.ensures c.node-node.result
+    c.node-node.ensures.row c.node-node.ensures.meaning forms.Sby (c.in-Sby.left ∷ c.in-Sby.right ∷ []) (ap read c.in-Sby.is) its there)
