@@ -38,7 +38,6 @@ pub mod FirstRow
 pub mod Knowing
 pub mod Listing
 pub mod Acting
-pub mod MovedRows
 pub mod Nothing
 pub mod Owning
 pub mod Storing

@@ -1,11 +1,10 @@
 -- What stays true while what only moves the point is passed, move by move.
-use Rattle.lucid_demand_steps.proofs.DecidingCommon.{ℕ, suc, inl, inr, List, [], ◌∷◌, Option, None, refl, sym, ◌∙◌, subst, arith, In, Context, frozen_frame, IsKnown, IsUnknown, Task, IsInRange, Table, PlainTask, plain_task, node_of, passed_contexts, node_by}
+use Rattle.lucid_demand_steps.proofs.DecidingCommon.{ℕ, suc, inl, inr, List, [], ◌∷◌, Option, None, refl, sym, ap, ◌∙◌, subst, arith, option_and_then, slice_get, In, Context, frozen_frame, IsKnown, IsUnknown, Task, IsInRange, Node, parts, Table, PlainTask, plain_task, node_of, passed_contexts, node_by}
 use Rattle.std.proofs.Common.{◌≡◌, ◌<◌, ◌⊎◌, Some, IfSome, option_map}
 use Rattle.lucid_tags.specs.Known.{tag_of, IsOneForOne, KeepsKnown}
-use Rattle.lucid_demand_steps.specs.Parts.{on_with, IsTask, moved, passed}
+use Rattle.lucid_demand_steps.specs.Parts.{on_with, IsTask, moved, moved_by, passed}
 use Rattle.lucid_demand_steps.proofs.MovingRows.{moved-moves}
 use Rattle.lucid_demand_steps.proofs.Passing.{passed-once, passed-way}
-use Rattle.lucid_demand_steps.proofs.MovedRows.{moved-by_row}
 use Rattle.lucid_equations.specs.Rows.{row_at}
 use Rattle.lucid_equations.specs.declared.rows.Node.TheVariants.{Freeze}
 use Rattle.lucid_demand_steps.proofs.History.{keeps_known_then}
@@ -75,7 +74,15 @@ pub unknown-on : (T : Table) (old now : List Context) (first task : Task) → Pa
     → EntersUnknown now (passed_contexts T 1 (plain_task now task)) → EntersUnknown old (way T old first)
 unknown-on T old now first task p u = (u.0, entered-on T old now first task p u.0 u.1, unknown-before old now u.0 p.keeps u.2)
 
+-- a frozen time goes on with its subject, in the context that it enters
+frozen-moved : (T : Table) (x : PlainTask) (a : ℕ) → row_at T x.node ≡ Some (Freeze a) → node_of T x ≡ node_by T (Freeze a)
+    → Some (record x { node = a; context = frozen_frame x.time x.context }) ≡ moved T x
+frozen-moved T x a h is =
+    let on : Option Node → Option PlainTask = λ o.
+    option_map (λ n. record x { node = n; context = frozen_frame x.time x.context }) (option_and_then (λ n. slice_get (parts n) 0) o) in
+    sym (ap (moved_by T x) is ∙ ap on h)
+
 -- a frozen time's context is that of one move
 pub frozen-way : (T : Table) (x : PlainTask) (a : ℕ) → row_at T x.node ≡ Some (Freeze a) → node_of T x ≡ node_by T (Freeze a)
     → In (frozen_frame x.time x.context) (passed_contexts T 1 x)
-frozen-way T x a h is = subst (λ o. In (frozen_frame x.time x.context) (on_with o [] (λ y. y.context ∷ []))) (moved-by_row T x (Freeze a) h is) (inl refl)
+frozen-way T x a h is = subst (λ o. In (frozen_frame x.time x.context) (on_with o [] (λ y. y.context ∷ []))) (frozen-moved T x a h is) (inl refl)
