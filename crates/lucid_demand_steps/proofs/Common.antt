@@ -6,7 +6,7 @@ pub use Rattle.lucid_equations.proofs.PartsRead.{part-lower, part-node, row-node
 pub use Rattle.lucid_equations.proofs.SameDatons.{same-daton}
 pub use Rattle.lucid_equations.specs.Datons.{Daton, NodeAim, NodePosition, daton_aim, node_aim, same_daton}
 pub use Rattle.lucid_equations.specs.MoreElements.{Extends}
-pub use Rattle.lucid_equations.specs.Moving.{Onward, onward}
+pub use Rattle.lucid_equations.specs.Moving.{onward}
 pub use Rattle.lucid_equations.specs.Nodes.{Equations, PlainNode, PlainNodes, freeze, invoke, no_nodes, part_of, reference, row}
 pub use Rattle.lucid_equations.specs.Parts.{reads_parts, visits_parts}
 pub use Rattle.lucid_equations.specs.Ranges.{IsInRange}

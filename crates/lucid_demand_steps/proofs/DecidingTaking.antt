@@ -20,7 +20,6 @@ use Rattle.lucid_equations.specs.declared.step.Start.TheVariants as start
 use Rattle.lucid_equations.specs.Steps.{answer_of, judged, given_value, start_of, step_after, step_plan, start_plan, least_of}
 use Rattle.lucid_equations.proofs.Told.{truth_told}
 use Rattle.lucid_equations.proofs.Plans.{steps_are_of_plans}
-use Rattle.lucid_equations.specs.Moving.{Onward}
 use Rattle.lucid_demand_steps.specs.Parts.{moved_by}
 use Rattle.lucid_demand_steps.specs.Decisions.{RowHas, ComesTo}
 use Rattle.lucid_demand_steps.specs.declared.decision.Decision.{Decision}
@@ -143,7 +142,7 @@ module _ (T : Table) (known : List Context) (forest : List (Option TaskRow)) (sl
   is_still i u s e low =
       none-some (record r.task { node = get_or parts i 0; time = u; space = s })
       (sym own.ready.still ∙ ap (moved_by T r.task) own.form
-      ∙ ap (option_and_then {T = Onward} (λ q. option_map (λ n. record r.task { node = n; time = q.time; space = q.space }) (part_number T its.task.node q.part))) e
+      ∙ ap (option_and_then {T = PartAt} (λ q. option_map (λ n. record r.task { node = n; time = q.time; space = q.space }) (part_number T its.task.node q.part))) e
       ∙ ap (option_map (λ n. record r.task { node = n; time = u; space = s })) (part_is i low))
 
   -- where the row's form begins

@@ -1,7 +1,8 @@
 -- What only moves the point stands for what it goes on with.
-use Rattle.lucid_demand_steps.proofs.Common.{◌≡◌, ℕ, ◌*◌, ◌<◌, ◌⊎◌, inl, inr, [], Option, Some, None, refl, sym, ap, ◌∙◌, subst, arith, filter_map, Head, In, Inside, Elements, entered_of, frozen_frame, PlainNode, PlainNodes, row, freeze, reference, invoke, part_of, Onward, onward, node_hval, node_visits, IsNeeded, node_at, node_by, parts, equations_of, IsInRange, HasPart, Node, Freeze, Table, row-node, part-lower, part-node, PlainTask, DatonAt, node_of, part_number, moved, moved_by, Holding, StandsFor, given, hval_of, visits_of, TaskNeeds}
+use Rattle.lucid_demand_steps.proofs.Common.{◌≡◌, ℕ, ◌*◌, ◌<◌, ◌⊎◌, inl, inr, [], Option, Some, None, refl, sym, ap, ◌∙◌, subst, arith, filter_map, Head, In, Inside, Elements, entered_of, frozen_frame, PlainNode, PlainNodes, row, freeze, reference, invoke, part_of, onward, node_hval, node_visits, IsNeeded, node_at, node_by, parts, equations_of, IsInRange, HasPart, Node, Freeze, Table, row-node, part-lower, part-node, PlainTask, DatonAt, node_of, part_number, moved, moved_by, Holding, StandsFor, given, hval_of, visits_of, TaskNeeds}
 use Rattle.std.proofs.Common.{length, slice_get, option_map, option_and_then}
 use Rattle.lucid_equations.specs.Moving.{OnlyMoves}
+use Rattle.lucid_equations.specs.declared.step.PartAt.{PartAt}
 use Rattle.lucid_equations.proofs.Moving.{moved-value, moved-visits, moved-needs, six-move}
 use Rattle.lucid_demand_steps.proofs.Looking.{has_part}
 
@@ -38,7 +39,7 @@ pub record Moves (T : Table) (new old : PlainTask) : Type 0 where
 
 module _ (T : Table) (range : IsInRange T) where
   -- a form that only moves the point
-  form-moves : (x : PlainTask) (f : Head) (es : PlainNodes) (q : Onward) (n : ℕ) → node_of T x ≡ row f es → onward f x.time x.space ≡ Some q
+  form-moves : (x : PlainTask) (f : Head) (es : PlainNodes) (q : PartAt) (n : ℕ) → node_of T x ≡ row f es → onward f x.time x.space ≡ Some q
       → part_number T x.node q.part ≡ Some n
       → Moves T (record x { node = n; time = q.time; space = q.space }) x
   form-moves x f es q n is on number =
@@ -80,7 +81,7 @@ module _ (T : Table) (range : IsInRange T) where
   go-number P to y None f h = absurd (cc)
   go-number P to y (Some n) f h = let e : to n ≡ y = cc in subst P e (f n refl)
 
-  go-form : (x y : PlainTask) (f : Head) (es : PlainNodes) → node_of T x ≡ row f es → (o : Option Onward) → onward f x.time x.space ≡ o
+  go-form : (x y : PlainTask) (f : Head) (es : PlainNodes) → node_of T x ≡ row f es → (o : Option PartAt) → onward f x.time x.space ≡ o
       → option_and_then (λ q. option_map (λ n. record x { node = n; time = q.time; space = q.space }) (part_number T x.node q.part)) o ≡ Some y → Moves T y x
   go-form x y f es is None on h = absurd (cc)
   go-form x y f es is (Some q) on h =

@@ -15,7 +15,7 @@ use Rattle.lucid_equations.specs.declared.step.Start.TheVariants as start
 use Rattle.lucid_equations.specs.Steps.{answer_of, part_at, by_truth, start_of, found, step_after, least_of}
 use Rattle.lucid_equations.proofs.Told.{by_its_truth, by_its_place}
 use Rattle.lucid_equations.proofs.Looks.{of_both, of_each}
-use Rattle.lucid_equations.specs.Moving.{Onward, onward}
+use Rattle.lucid_equations.specs.Moving.{onward}
 use Rattle.lucid_demand_steps.specs.Parts.{at_place}
 use Rattle.lucid_demand_steps.specs.Taken.{place_of, IsLook, SearchesOn, Fits}
 
@@ -137,13 +137,13 @@ module _ (r : PlainRow) where
   next_fits : IsStill forms.Next r → StartFits forms.Next r (start_of forms.Next (place_of r))
   next_fits still =
       of_both (Fits forms.Next r) (nat_lt r.task.time last) (step.Part (part_at 0 (suc r.task.time) r.task.space)) (step.Give Fault)
-      (λ low. let to : Bool → Option Onward = λ b. if b then Some (record { part = 0; time = suc r.task.time; space = r.task.space }) else None in
+      (λ low. let to : Bool → Option PartAt = λ b. if b then Some (record { part = 0; time = suc r.task.time; space = r.task.space }) else None in
       absurd (still 0 (suc r.task.time) r.task.space (ap to low) (omega arith))) (λ e. tt)
 
   succ_fits : IsStill forms.Succ r → StartFits forms.Succ r (start_of forms.Succ (place_of r))
   succ_fits still =
       of_both (Fits forms.Succ r) (nat_lt r.task.space last) (step.Part (part_at 0 r.task.time (suc r.task.space))) (step.Give Fault)
-      (λ low. let to : Bool → Option Onward = λ b. if b then Some (record { part = 0; time = r.task.time; space = suc r.task.space }) else None in
+      (λ low. let to : Bool → Option PartAt = λ b. if b then Some (record { part = 0; time = r.task.time; space = suc r.task.space }) else None in
       absurd (still 0 r.task.time (suc r.task.space) (ap to low) (omega arith))) (λ e. tt)
 
   fby_fits : IsStill forms.Fby r → StartFits forms.Fby r (start_of forms.Fby (place_of r))

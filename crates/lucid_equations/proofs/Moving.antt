@@ -4,7 +4,8 @@ use Rattle.lucid_lists.proofs.Numbers.{zero_le}
 use Rattle.lucid_value.specs.Plain.{fault}
 use Rattle.lucid_tree.specs.Tree.{first, next, fby, initial, succ, sby}
 use Rattle.lucid_tree.specs.Rows.{gives_part, add_value, single, last}
-use Rattle.lucid_equations.specs.Moving.{Onward, onward, OnlyMoves}
+use Rattle.lucid_equations.specs.Moving.{onward, OnlyMoves}
+use Rattle.lucid_equations.specs.declared.step.PartAt.{PartAt}
 
 -- a plan that gives a part gives the part's value, and sees what the part sees
 part_runs : (r : Reader (Option PlainValue)) (i t s : ℕ) → run (gives_part i t s) r ≡ r i t s
@@ -35,7 +36,7 @@ part-walked p g m d deep no_nodes i e h c t s = absurd (none-some e h)
 part-walked p g m d deep (node x es) zero e h c t s = let q : x ≡ e = cc in ap (λ z. walk_at p g m d deep z c t s) q
 part-walked p g m d deep (node x es) (suc i) e h c t s = part-walked p g m d deep es i e h c t s
 
-module _ (p : Equations) (f : Head) (es : PlainNodes) (e : PlainNode) (t s : ℕ) (q : Onward) (only : OnlyMoves f t s q) (is : part_of es q.part ≡ Some e) where
+module _ (p : Equations) (f : Head) (es : PlainNodes) (e : PlainNode) (t s : ℕ) (q : PartAt) (only : OnlyMoves f t s q) (is : part_of es q.part ≡ Some e) where
   pub moved-value : (g : Given Daton) (m : ℕ) (c : Context) → node_hval p g m (row f es) c t s ≡ node_hval p g m e c q.time q.space
   moved-value g m c =
       ap (λ z. run z (λ i u r. part_at p m (below (node_value p) g m) es c i u r)) (only m)
@@ -62,18 +63,18 @@ pub frozen-needs : (p : Equations) (e : PlainNode) (b : Elements) (c : Context) 
 frozen-needs p e b c t s d = (λ n. n, λ n. n)
 
 -- the plans of the six forms
-no_move : (q : Onward) → ◌≡◌ {A = Option Onward} None (Some q) → ⊥
+no_move : (q : PartAt) → ◌≡◌ {A = Option PartAt} None (Some q) → ⊥
 no_move q e = cc
 
-same_move : (x q : Onward) → Some x ≡ Some q → gives_part x.part x.time x.space ≡ gives_part q.part q.time q.space
+same_move : (x q : PartAt) → Some x ≡ Some q → gives_part x.part x.time x.space ≡ gives_part q.part q.time q.space
 same_move x q e = let h : x ≡ q = cc in ap (λ z. gives_part z.part z.time z.space) h
 
-where_below : (b : Bool) (x q : Onward) (off : Plan) → (if b then Some x else None) ≡ Some q
+where_below : (b : Bool) (x q : PartAt) (off : Plan) → (if b then Some x else None) ≡ Some q
     → (if b then gives_part x.part x.time x.space else off) ≡ gives_part q.part q.time q.space
 where_below true x q off e = same_move x q e
 where_below false x q off e = absurd (no_move q e)
 
-pub six-move : (f : Head) (t s : ℕ) (q : Onward) → onward f t s ≡ Some q → OnlyMoves f t s q
+pub six-move : (f : Head) (t s : ℕ) (q : PartAt) → onward f t s ≡ Some q → OnlyMoves f t s q
 six-move first t s q e m = same_move (record { part = 0; time = 0; space = s }) q e
 six-move next t s q e m = where_below (nat_lt t last) (record { part = 0; time = suc t; space = s }) q (gives fault) e
 six-move fby zero s q e m = same_move (record { part = 0; time = 0; space = s }) q e

@@ -9,16 +9,11 @@ use Rattle.lucid_equations.specs.Nodes.{PlainNode, row, freeze, PlainNodes, part
 use Rattle.lucid_equations.specs.Datons.{Daton}
 use Rattle.lucid_equations.specs.Values.{node_hval}
 use Rattle.lucid_equations.specs.Visits.{node_visits, IsNeeded}
+use Rattle.lucid_equations.specs.declared.step.PartAt.{PartAt}
 
--- Where a form goes on: a part, at a time and a space.
-pub record Onward : Type 0 where
-  pub part : ℕ
-  pub time : ℕ
-  pub space : ℕ
-
--- Where the forms go on that only move the point: `first`, `next` below the last time, `fby`, `initial`, `succ` below the last space,
--- and `sby`.
-abbrev pub onward : Head → (time space : ℕ) → Option Onward
+-- The part, at a time and a space, with which the forms go on that only move the point: `first`, `next` below the last time, `fby`, `initial`,
+-- `succ` below the last space, and `sby`.
+abbrev pub onward : Head → (time space : ℕ) → Option PartAt
 onward first t s = Some (record { part = 0; time = 0; space = s })
 onward next t s = if nat_lt t last then Some (record { part = 0; time = suc t; space = s }) else None
 onward fby zero s = Some (record { part = 0; time = 0; space = s })
@@ -30,29 +25,29 @@ onward sby t (suc r) = Some (record { part = 1; time = t; space = r })
 onward _ t s = None
 
 -- The form only moves the point: at each limit its plan is to give this part at this point.
-abbrev pub OnlyMoves : Head → (time space : ℕ) → Onward → Type 0
+abbrev pub OnlyMoves : Head → (time space : ℕ) → PartAt → Type 0
 OnlyMoves f t s q = (m : ℕ) → plan m f t s ≡ gives_part q.part q.time q.space
 
 -- So it is for the six forms.
 abbrev pub SixFormsOnlyMove : Type 0
-SixFormsOnlyMove = (f : Head) (t s : ℕ) (q : Onward) → onward f t s ≡ Some q → OnlyMoves f t s q
+SixFormsOnlyMove = (f : Head) (t s : ℕ) (q : PartAt) → onward f t s ≡ Some q → OnlyMoves f t s q
 
 -- What only moves the point has its part's approximations there, at the same limits, whatever is held.
 abbrev pub MovingKeepsValues : Type 0
 MovingKeepsValues =
-    (p : Equations) (f : Head) (es : PlainNodes) (e : PlainNode) (t s : ℕ) (q : Onward) → OnlyMoves f t s q → part_of es q.part ≡ Some e
+    (p : Equations) (f : Head) (es : PlainNodes) (e : PlainNode) (t s : ℕ) (q : PartAt) → OnlyMoves f t s q → part_of es q.part ≡ Some e
     → (g : Given Daton) (m : ℕ) (c : Context) → node_hval p g m (row f es) c t s ≡ node_hval p g m e c q.time q.space
 
 -- It visits the very same,
 abbrev pub MovingVisitsTheSame : Type 0
 MovingVisitsTheSame =
-    (p : Equations) (f : Head) (es : PlainNodes) (e : PlainNode) (t s : ℕ) (q : Onward) → OnlyMoves f t s q → part_of es q.part ≡ Some e
+    (p : Equations) (f : Head) (es : PlainNodes) (e : PlainNode) (t s : ℕ) (q : PartAt) → OnlyMoves f t s q → part_of es q.part ≡ Some e
     → (b : Elements) (m d : ℕ) (c : Context) → node_visits p b m d (row f es) c t s ≡ node_visits p b m d e c q.time q.space
 
 -- and needs the same.
 abbrev pub MovingNeedsTheSame : Type 0
 MovingNeedsTheSame =
-    (p : Equations) (f : Head) (es : PlainNodes) (e : PlainNode) (t s : ℕ) (q : Onward) → OnlyMoves f t s q → part_of es q.part ≡ Some e
+    (p : Equations) (f : Head) (es : PlainNodes) (e : PlainNode) (t s : ℕ) (q : PartAt) → OnlyMoves f t s q → part_of es q.part ≡ Some e
     → (b : Elements) (c : Context) (d : Daton × ℕ) → IsNeeded p b (row f es) c t s d ↔ IsNeeded p b e c q.time q.space d
 
 -- A frozen time has its subject's approximations in the context that it enters,
