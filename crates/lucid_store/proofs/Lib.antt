@@ -1,6 +1,7 @@
 pub mod Common
 pub mod AgeLemmas
 pub mod Besides
+pub mod BlockLemmas
 pub mod TouchedLemmas
 pub mod PlaceLemmas
 pub mod OrderLemmas

@@ -1,7 +1,7 @@
 //! The ages of values, of which those that are 0 needn't lie in memory.
 
-ghost use Rattle.std.specs.Prelude.{◌≡◌, ℕ, ◌+◌, ◌-◌, ◌<◌, ◌≤◌, ◌++◌, ◌∷◌, [], Some, OnOk, OnErr, length, map, take, slice_set, slice_get, slice_index_or};
-ghost use Rattle.std.specs.List.{swap_remove};
+ghost use Rattle.std.specs.Prelude.{◌≡◌, ℕ, ◌+◌, ◌-◌, ◌<◌, ◌≤◌, ◌++◌, ◌∷◌, [], Some, OnOk, OnErr, length, map, take, nat_le, slice_set, slice_get, slice_index_or};
+ghost use Rattle.std.specs.List.{list_all, swap_remove};
 ghost use Rattle.std.specs.Vec.{vec_capacity};
 ghost use Rattle.lucid_store.specs.Ages.{zeros, IsLastOver};
 ghost use Rattle.lucid_store.specs.Entries.{older};
@@ -89,8 +89,23 @@ fn raise_written(written: &mut Vec<u32>)
     raise_all(written.as_mut_slice());
 }
 
-// The last place whose age is over the limit.
-fn last_over(ages: &[u32], limit: u32) -> Option<usize>
+// So many ages are looked over at once.
+const BLOCK: usize = 16;
+
+// Whether none of the ages is over the limit. It doesn't stop at the first, so that the loop looks at several at a time.
+#[inline(always)]
+fn is_none_over(ages: &[u32], limit: u32) -> bool
+    ensures { result ≡ list_all (λ age. nat_le age limit) ages.now }
+{
+    let mut none = true;
+    for index in 0..ages.len() {
+        none &= ages[index] <= limit;
+    }
+    none
+}
+
+// The last place whose age is over the limit, looked for place by place.
+fn search(ages: &[u32], limit: u32) -> Option<usize>
     ensures { IsLastOver limit ages.now (length ages.now) result }
 {
     for index in (0..ages.len()).rev() {
@@ -99,6 +114,22 @@ fn last_over(ages: &[u32], limit: u32) -> Option<usize>
         }
     }
     None
+}
+
+// The last place whose age is over the limit. Where the very last one isn't, whole blocks are passed: mostly those over the limit stand
+// side by side, and the others by the hundred.
+fn last_over(ages: &[u32], limit: u32) -> Option<usize>
+    ensures { IsLastOver limit ages.now (length ages.now) result }
+{
+    let mut end = ages.len();
+    while end > 0 && ages[end - 1] <= limit {
+        let start = end.saturating_sub(BLOCK);
+        if !is_none_over(&ages[start..end], limit) {
+            break;
+        }
+        end = start;
+    }
+    search(&ages[..end], limit)
 }
 
 impl Ages {
