@@ -1,9 +1,9 @@
 -- What a caller's proof cites of the words in `specs/Entries.antt`.
-use Rattle.lucid_store.proofs.Common.{◌≡◌, Bool, true, false, cond, Option, Some, None, refl, ap, sym, ◌∙◌, option_map, Key, Entry, same_key, renewed, same_key_is_equality}
+use Rattle.lucid_store.proofs.Common.{◌≡◌, Bool, true, false, cond, Option, Some, None, is_some, if◌then◌else◌, refl, ap, sym, ◌∙◌, option_map, Key, Entry, same_key, renewed, same_key_is_equality}
 use Rattle.std.proofs.Common.{◌≢◌}
 use Rattle.lucid_value.specs.View.{plain}
 use Rattle.lucid_store.specs.Stored.{Stored}
-use Rattle.lucid_store.specs.Entries.{entry_at, value_at, held, IsTouched}
+use Rattle.lucid_store.specs.Entries.{entry_at, value_at, held, order_touched, IsTouched}
 
 pub other_key : (a b : Key) → b ≢ a → same_key a b ≡ false
 other_key a b apart = by (same_key a b) refl
@@ -26,3 +26,24 @@ value_at-touched old new key touched q = ap (option_map (λ (x : Entry). x.value
 
 pub held-touched : (old new : Stored) (key : Key) → IsTouched old new key → (q : Key) → held new q ≡ held old q
 held-touched old new key touched q = ap (option_map plain) (value_at-touched old new key touched q)
+
+-- a look-up of what isn't held may leave all as it is
+pub absent_touched : (w : Stored) (key : Key) → value_at w key ≡ None → IsTouched w w key
+absent_touched w key none = record {
+  entries = λ q. by q (same_key key q) refl;
+  touched = ap (λ o. if is_some o then Some key else w.touched) (sym absent);
+  order = ap (λ o. if is_some o then order_touched key w.order else w.order) (sym absent);
+  lost = refl;
+  count = refl;
+}
+  where
+    no_entry : (o : Option Entry) → option_map (λ (x : Entry). x.value) o ≡ None → o ≡ None
+    no_entry None h = refl
+    no_entry (Some x) h = absurd (cc)
+
+    absent : entry_at w key ≡ None
+    absent = no_entry (entry_at w key) none
+
+    by : (q : Key) (t : Bool) → same_key key q ≡ t → entry_at w q ≡ cond t (option_map renewed (entry_at w key)) (entry_at w q)
+    by q true h = sym (ap (entry_at w) ((same_key_is_equality key q).0 h)) ∙ absent ∙ sym (ap (option_map renewed) absent)
+    by q false h = refl
