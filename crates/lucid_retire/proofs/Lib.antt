@@ -1,3 +1,4 @@
 pub mod Common
+pub mod CountedTurns
 pub mod Paces
 pub mod RecencyTurns

@@ -1,5 +1,6 @@
 pub mod Turns
 pub mod Aging
+pub mod Counting
 pub mod Script
 pub mod Recency
 pub mod RecencyCode

@@ -19,21 +19,26 @@ use std::marker::Model;
 pub struct Ages {
     every: u32,
     limit: u32,
-    // How many turns there were since the last sweep.
-    since: u32,
+    // How many turns there are to the next sweep, that turn counted.
+    left: u32,
+    // How many keys a turn leaves at most.
+    most: u64,
 }
 
 impl Model for Ages {
-    ghost use Rattle.std.specs.Prelude.{◌<◌};
+    ghost use Rattle.std.specs.Prelude.{◌≡◌, ◌+◌, ◌-◌, ◌*◌, ◌<◌, ◌≤◌};
     ghost use Rattle.lucid_retire.specs.Aging.{Aging};
+    ghost use Rattle.lucid_retire.specs.Counting.{same_fields};
 
     ghost Value = { Aging };
 
-    ghost view = { λ a. record { every = a.every; limit = a.limit; since = a.since } };
+    ghost view = { λ a. record { every = a.every; limit = a.limit; since = a.every - a.left } };
 
-    ghost invariant = { λ a. a.since < a.every };
+    ghost invariant = { λ a. (0 < a.left) × (a.left ≤ a.every) × (a.most ≡ a.every * (a.limit + 1)) };
 
-    ghost inverse = { λ d. record { every = d.every; limit = d.limit; since = d.since } };
+    ghost inverse = { λ d. record { every = d.every; limit = d.limit; left = d.every - d.since; most = d.every * (d.limit + 1) } };
+
+    ghost inverse_ok = { λ a h. same_fields (λ n m. record { every = a.every; limit = a.limit; left = n; most = m }) a.every a.limit a.left a.most h.1 h.2 };
 }
 
 impl Ages {
@@ -46,7 +51,8 @@ impl Ages {
         Ages {
             every,
             limit,
-            since: 0,
+            left: every,
+            most: every as u64 * (limit as u64 + 1),
         }
     }
 
@@ -55,22 +61,22 @@ impl Ages {
     fn most(&self) -> u64
         ensures { result ≡ most_of self.now }
     {
-        self.every as u64 * (self.limit as u64 + 1)
+        self.most
     }
 
-    // Counts a turn, and says whether it sweeps.
+    // Counts a turn, and says whether it sweeps. It counts down, so that most turns only take one away.
     #[inline(always)]
     fn count(&mut self) -> bool
         ensures counted { self.new ≡ after_turn self.old }
         ensures sweeps { result ≡ is_sweeping self.old }
         ensures below { self.old.since < self.old.every }
     {
-        self.since += 1;
-        let sweeps = self.since == self.every;
-        if sweeps {
-            self.since = 0;
+        if self.left == 1 {
+            self.left = self.every;
+            return true;
         }
-        sweeps
+        self.left -= 1;
+        false
     }
 
     // Counts a turn, and sweeps if it is the time.
