@@ -14,9 +14,10 @@ use Rattle.lucid_demand_steps.proofs.Answering.{held-answers}
 use Rattle.lucid_demand_steps.proofs.NewRows.{StandsBelow, body-stands, body-is_wanted, body-remembers}
 use Rattle.lucid_demand_steps.specs.Parts.{GoesTo}
 use Rattle.lucid_demand_steps.proofs.FoundAims.{body_task, aim_refers, aim_goes, refers_to_one, refers_nowhere}
+use Rattle.lucid_demand.specs.Naming.{MayAskBody}
 use Rattle.lucid_demand.proofs.TouchedKeys.{found_is_held, absent_is_no_stay}
 use Rattle.lucid_demand.proofs.GrownTags.{way_is_entered}
-use Rattle.lucid_demand.proofs.AskedParts.{EntersWay, may_ask_grown, may_ask_entered, may_ask_touched, costs_grown, asked_given, asked_row, asked_refused, asked_too_deep, asked_turned, only_set, given_sets, asked_sets}
+use Rattle.lucid_demand.proofs.AskedParts.{EntersWay, may_ask_grown, may_ask_entered, may_ask_touched, costs_grown, asked_given, asked_refused, asked_too_deep, asked_turned, only_set, given_sets}
 
 -- what is so of what a call gives, where it gave that
 at_ok : {A E : Type 0} (r : Result A E) (P : A → Type 0) (a : A) → r ≡ Ok a → IfOk r P → P a
@@ -31,6 +32,16 @@ pub record LooksUp (mid looked : Evaluating) (key : Key) (found : Option Value) 
 -- the same, seen so
 pub seen_so : (mid o looked : Evaluating) (key : Key) (found : Option Value) → o ≡ looked → LooksUp mid looked key found → LooksUp mid o key found
 seen_so mid o looked key found view l = subst (λ z. LooksUp mid z key found) (sym view) l
+
+-- The body of an aim that was found is one of the table's nodes, where the engine is seen so.
+pub aim_body_there : {F : Type 0} (old mid o looked : Evaluating) (x : Task) (result : Result (Option Aim) F) → FindsAim old mid x result → (a : Aim)
+    → result ≡ Ok (Some a) → looked ≡ record mid { engine = record mid.engine { stored = looked.engine.stored } } → o ≡ looked
+    → (depth : ℕ) (body : Task) → body ≡ body_task a depth → body.node < length o.engine.table.nodes
+aim_body_there old mid o looked x result finds a is only view depth body is_body =
+    subst (λ (z : Task). z.node < length o.engine.table.nodes) (sym is_body)
+    (subst (λ T. a.body < length T.nodes) (sym (ap (λ (e : Evaluating). e.engine.table) view ∙ ap (λ (e : Evaluating). e.engine.table) only
+    ∙ ap (λ (e : Evaluating). e.engine.table) finds.only))
+    ((at_ok result (λ z. IfSome z (IsAim old.engine.table mid.engine.known (space_of x.tag))) (Some a) is finds.there).body))
 
 module _ {F : Type 0} (old mid : Evaluating) (part : Option Part) (x : Task) (result : Result (Option Aim) F) (finds : FindsAim old mid x result)
     (reference : IsReference (node_of old.engine.table (plain_task old.engine.known x))) (i : DemandIn) (may : MayRefer i.demand old i.world part x) where
@@ -168,32 +179,32 @@ module _ {F : Type 0} (old mid : Evaluating) (part : Option Part) (x : Task) (re
         may_later : MayAskFor i.demand later i.world part x n
         may_later = may_ask_grown i.demand looked i.world part x n may_looked known way.keeps (way.contexts may_looked.owns.contexts) entered
 
-        same_cost_later : cost i.demand later ≡ cost i.demand old
+        pub same_cost_later : cost i.demand later ≡ cost i.demand old
         same_cost_later = costs_grown i.demand looked i.world part x n may_looked known way.keeps ∙ same_cost_looked
 
-        -- There was no memory for a context on its way, or for a row.
+        -- There was no memory for a context on its way.
         pub body_refused : (rs : List (Option TaskRow)) (res : Result (Option Value) DemandFault) → res ≡ Err NoMemory
             → AsksIn i.demand old (record { engine = record looked.engine { known = known }; rows = rs }) i.world part res
         body_refused rs res is_so = subst (λ r. AsksIn i.demand old (record { engine = record looked.engine { known = known }; rows = rs }) i.world part r)
             (sym is_so)
             (asked_refused i.demand old later i.world part x n may_later same_cost_later rs)
 
-        -- It has a row, which remembers the daton.
-        pub body_asked : (rs : List (Option TaskRow)) (slot : ℕ) (y : Task)
-            → plain_task known y ≡ passed looked.engine.table (plain_task looked.engine.known body) → IsKnown known y.tag
-            → rows.IsPast looked.rows slot → rows.Asks looked.rows rs part slot y (Some a.key) → (o : Option Value) → o ≡ None
-            → AsksIn i.demand old (record { engine = record looked.engine { known = known }; rows = rs }) i.world part (Ok o)
-        body_asked rs slot y ends tag past asks o stays =
-            subst (λ r. AsksIn i.demand old (record { engine = record looked.engine { known = known }; rows = rs }) i.world part (Ok r)) (sym stays)
-            (asked_row i.demand old later i.world part x n may_later same_cost_later rs slot y (Some a.key)
-            (by_plain (λ k z t. StandsFor T (k ∷ []) t z) below.stands) (ap (moved T) last ∙ below.still) (by_plain (λ k z t. rank T t < n) below.lower) tag
-            (way.keeps.known a.key.tag aim_there.key_known)
-            (λ b z. by_plain (λ k q t. IsWanted i.demand b t)
-            (body-is_wanted i.demand b its (passed T (plain_task looked.engine.known body)) daton below no_stay (may_looked.wanted b z)))
-            (λ b z k e. subst (λ q. Remembers i.demand b (plain_task known y) q) (let same : plain_key known a.key ≡ k = cc in same)
-            (by_plain (λ q u t. Remembers i.demand b t q)
-            (body-remembers i.demand may_looked.demand.in_range b its (plain_task looked.engine.known body) daton ((may_looked.wanted b z).seen) goes
-            no_stay))) past asks)
+        -- It may be asked for.
+        pub may_ask_body : (y : Task) → plain_task known y ≡ passed looked.engine.table (plain_task looked.engine.known body) → IsKnown known y.tag
+            → MayAskBody i.demand later i.world part x y a.key
+        may_ask_body y ends tag = record {
+          least = n;
+          may = may_later;
+          stands = by_plain (λ k z t. StandsFor T (k ∷ []) t z) below.stands;
+          still = ap (moved T) last ∙ below.still;
+          lower = by_plain (λ k z t. rank T t < n) below.lower;
+          tag = tag;
+          key_tag = way.keeps.known a.key.tag aim_there.key_known;
+          wanted = λ b z. by_plain (λ k q t. IsWanted i.demand b t)
+              (body-is_wanted i.demand b its (passed T (plain_task looked.engine.known body)) daton below no_stay (may_looked.wanted b z));
+          remembers = λ b z. by_plain (λ q u t. Remembers i.demand b t q)
+              (body-remembers i.demand may_looked.demand.in_range b its (plain_task looked.engine.known body) daton ((may_looked.wanted b z).seen) goes no_stay);
+        }
           where
             last : plain_task known y ≡ passed T (plain_task looked.engine.known body)
             last = subst (λ t. plain_task known y ≡ passed t (plain_task looked.engine.known body)) may_looked.owns.since.goes_on.table ends
@@ -233,14 +244,16 @@ module _ {F : Type 0} (old mid looked : Evaluating) (x : Task) (result : Result 
       (subst (λ (e : EngineView). KeepsKnown old.engine.known e.known) (sym t.only) keeps_known) part v
       (subst (λ r. rows.Gives looked.rows r part v) (sym same) gives)
 
-  -- or it was asked for.
-  pub made_sets : (part : Option Part) (known : List Context) → KeepsKnown looked.engine.known known → IfSome part (rows.IsIdlePart old.rows)
-      → (rs : List (Option TaskRow)) (slot : ℕ) (y : Task) (k : Option Key)
-      → rows.IsPast looked.rows slot → rows.Asks looked.rows rs part slot y k
-      → IfSome part (SetsPart old (record { engine = record looked.engine { known = known }; rows = rs }))
-  made_sets part known more idle rs slot y k =
-      asked_sets old (record { engine = record looked.engine { known = known }; rows = rs }) looked.rows same_rows
-      (only_set (record looked.engine { known = known }) old.engine known looked.engine.stored old.engine.noted
-      (ap (λ (e : EngineView). record e { known = known }) engine_is))
-      (record { known = λ tag h. more.known tag (keeps_known.known tag h); same = λ tag h. more.same tag (keeps_known.known tag h) ∙ keeps_known.same tag h })
-      part slot y k idle
+  -- or its body was asked for.
+  pub body_sets : (part : Option Part) (known : List Context) → KeepsKnown looked.engine.known known → (new : Evaluating)
+      → IfSome part (SetsPart (record { engine = record looked.engine { known = known }; rows = looked.rows }) new) → IfSome part (SetsPart old new)
+  body_sets None known more new s = tt
+  body_sets (Some p) known more new s = record {
+    state = s.state;
+    row = s.row ∙ ap (λ rs. option_map (rows.with_part p.index s.state) (rows.row_at rs p.slot)) same_rows;
+    only = s.only ∙ ap (λ (e : EngineView). record e { known = new.engine.known; stored = new.engine.stored; noted = new.engine.noted }) engine_is;
+    keeps = record {
+      known = λ tag h. s.keeps.known tag (more.known tag (keeps_known.known tag h));
+      same = λ tag h. s.keeps.same tag (more.known tag (keeps_known.known tag h)) ∙ more.same tag (keeps_known.known tag h) ∙ keeps_known.same tag h;
+    };
+  }

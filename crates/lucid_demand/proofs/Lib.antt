@@ -11,6 +11,7 @@ pub mod GrownTags
 pub mod LookingOn
 pub mod Looping
 pub mod MayAsk
+pub mod NamedBodies
 pub mod ReadElements
 pub mod SearchesBegin
 pub mod SettledRows

@@ -4,6 +4,7 @@ pub mod Demanded
 pub mod Evaluating
 pub mod EvaluatingCode
 pub mod LoopEnds
+pub mod Naming
 pub mod Reading
 pub mod Searching
 pub mod Turning

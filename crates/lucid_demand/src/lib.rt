@@ -22,6 +22,7 @@ pub use lucid_demand_steps::DemandFault;
 
 mod arguments;
 mod engine;
+mod names;
 mod references;
 mod searches;
 mod settling;

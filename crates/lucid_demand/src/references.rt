@@ -20,7 +20,7 @@ use std::alloc::AllocError;
 
 impl<R: Retire, S: Pick> Evaluation<R, S> {
     /// Asks for a reference, for a part or for the demand's answer. A held value is given at once, at any depth; then the policy has its
-    /// turn, so that it is told of each key that is touched. Else the reference's body has a row, which remembers the reference's key.
+    /// turn, so that it is told of each key that is touched. Else the reference's body is asked for.
     #[inline(never)]
     pub(crate) fn ask_reference(
         &mut self,
@@ -47,8 +47,7 @@ impl<R: Retire, S: Pick> Evaluation<R, S> {
             return Err(DemandFault::TooDeep);
         }
         let body = moved_on(&self.program, &mut self.tags, aim.task(task.depth - 1))?;
-        self.tasks.ask(part, body, Some(aim.key))?;
-        Ok(())
+        self.ask_body(part, body, aim.key, answer)
     }
 
     // What a task's reference goes on with.
@@ -71,9 +70,9 @@ impl<R: Retire, S: Pick> Evaluation<R, S> {
         }
     }
 
-    // A copy of the value that is held under a key.
+    /// A copy of the value that is held under a key.
     #[inline(always)]
-    fn copy_held(&mut self, key: Key) -> Result<Option<Value>, AllocError>
+    pub(crate) fn copy_held(&mut self, key: Key) -> Result<Option<Value>, AllocError>
         ensures value { IfOk result (λ found. found ≡ value_at self.old.engine.stored key) }
         ensures touched { IsTouched self.old.engine.stored self.new.engine.stored key }
         ensures only { self.new ≡ record self.old { engine = record self.old.engine { stored = self.new.engine.stored } } }

@@ -25,9 +25,9 @@ use lucid_value::Value;
 use std::alloc::AllocError;
 
 impl<R: Retire, S: Pick> Evaluation<R, S> {
-    // Puts a copy of a value under a key.
+    /// Puts a copy of a value under a key.
     #[inline(always)]
-    fn put(&mut self, key: Key, value: &Value) -> Result<(), AllocError>
+    pub(crate) fn put(&mut self, key: Key, value: &Value) -> Result<(), AllocError>
         ensures kept { OnOk result (IsKept (Some key) self.old.engine self.new.engine value.now) }
         ensures rows { self.new.rows ≡ self.old.rows }
         ensures err { OnErr result (self.new ≡ self.old) }

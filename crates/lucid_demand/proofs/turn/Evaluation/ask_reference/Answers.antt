@@ -1,8 +1,11 @@
-use Rattle.lucid_demand.proofs.Common.{◌-◌, refl, ap, ◌∙◌, subst, arith, value_at, Evaluating, gave, IsTurned, NoMemory}
-use Rattle.std.specs.Prelude.{Ok}
+use Rattle.lucid_demand.proofs.Common.{◌-◌, refl, sym, ap, ◌∙◌, subst, arith, value_at, PlainTask, plain_task, passed-stands, Evaluating, gave, IsTurned, NoMemory}
+use Rattle.std.proofs.Common.{◌<◌, length}
+use Rattle.std.specs.Prelude.{IfSome, Ok}
+use Rattle.lucid_tasks.specs.Rows.{IsIdlePart}
+use Rattle.lucid_equations.specs.Programs.{table_of}
 use Rattle.lucid_demand.proofs.TakenParts.{gave_err}
-use Rattle.lucid_demand.proofs.AskedParts.{open_still, open_given}
-use Rattle.lucid_demand.proofs.AskedReferences.{seen_so, aim_refused, nowhere_refused, look_refused, look_given, look_too_deep, body_refused, body_asked, held_sets, made_sets}
+use Rattle.lucid_demand.proofs.AskedParts.{asked_from, on_ok, open_given}
+use Rattle.lucid_demand.proofs.AskedReferences.{seen_so, aim_body_there, aim_refused, nowhere_refused, look_refused, look_given, look_too_deep, body_refused, same_cost_later, may_ask_body, held_sets, body_sets}
 use Rattle.lucid_demand.proofs.turn.Evaluation.ask_reference.Goals as goal
 
 pub returns-in_err-aim-clause-asks : goal.returns-in_err-aim-clause-asks
@@ -60,35 +63,39 @@ returns-in_err-body-clause-asks g c = λ i may.
     (gave c.from_residual-in_err-body.result c.args.answer.now)
     (gave_err c.from_residual-in_err-body.result c.args.answer.now NoMemory c.from_residual-in_err-body.ensures.1)
 
-pub returns-in_err-ask-clause-asks : goal.returns-in_err-ask-clause-asks
-returns-in_err-ask-clause-asks g c = λ i may.
-    body_refused c.args.self.now c.aim.new.self c.args.part c.args.task c.aim.result c.aim.ensures c.requires.reference i may
-    c.in-Some.aim (c.in_ok-aim.was ∙ ap Ok c.in-Some.is) _ c.in_ok-value.field-0
-    (seen_so c.aim.new.self _ c.copy_held.new.self c.in-Some.aim.key c.in_ok-value.field-0 c.self.view_is
-    (record { value = c.in_ok-value.ensures.value; touched = c.copy_held.ensures.touched; only = c.copy_held.ensures.only })) c.in_default-2.is
-    (c.args.task.depth - 1) (omega (arith, c.if-task-eq0.false)) c.task.result c.task.ensures c.moved_on.new.tags
-    (record { keeps = c.moved_on.ensures.keeps; contexts = c.moved_on.ensures.one_for_one; entered = c.moved_on.ensures.entered }) c.ask.new.self
-    (gave c.from_residual-in_err-ask.result c.args.answer.now)
-    (gave_err c.from_residual-in_err-ask.result c.args.answer.now NoMemory c.from_residual-in_err-ask.ensures.1)
+pub ask_body-requires-clause-idle : goal.ask_body-requires-clause-idle
+ask_body-requires-clause-idle g c =
+    subst (λ rs. IfSome c.args.part (IsIdlePart rs)) (sym (ap (λ (e : Evaluating). e.rows) c.self.view_is ∙ ap (λ (e : Evaluating). e.rows) c.copy_held.ensures.only
+    ∙ ap (λ (e : Evaluating). e.rows) c.aim.ensures.only)) c.requires.can.part_idle
+
+pub ask_body-requires-clause-there : goal.ask_body-requires-clause-there
+ask_body-requires-clause-there g c =
+    subst (λ (y : PlainTask). y.node < length (table_of c.self.inside.program).nodes) (sym c.in_ok-body.ensures.passed)
+    ((passed-stands (table_of c.self.inside.program) c.self.inside.program.in_range (plain_task c.self.inside.tags c.task.result)
+    (aim_body_there c.args.self.now c.aim.new.self _ c.copy_held.new.self c.args.task c.aim.result c.aim.ensures c.in-Some.aim
+    (c.in_ok-aim.was ∙ ap Ok c.in-Some.is) c.copy_held.ensures.only c.self.view_is (c.args.task.depth - 1) c.task.result c.task.ensures)).2)
 
 pub returns-clause-sets : goal.returns-clause-sets
 returns-clause-sets g c =
-    made_sets c.args.self.now c.aim.new.self _ c.args.task c.aim.result c.aim.ensures c.in-Some.aim.key c.in_ok-value.field-0
+    on_ok c.ask_body.result _ _ (body_sets c.args.self.now c.aim.new.self _ c.args.task c.aim.result c.aim.ensures c.in-Some.aim.key c.in_ok-value.field-0
     (seen_so c.aim.new.self _ c.copy_held.new.self c.in-Some.aim.key c.in_ok-value.field-0 c.self.view_is
     (record { value = c.in_ok-value.ensures.value; touched = c.copy_held.ensures.touched; only = c.copy_held.ensures.only }))
-    c.args.part c.moved_on.new.tags c.moved_on.ensures.keeps c.requires.can.part_idle c.ask.new.self c.in_ok-ask.field-0 c.in_ok-body.body _
-    c.in_ok-ask.ensures.newest c.in_ok-ask.ensures.rows
-
-pub returns-clause-open : goal.returns-clause-open
-returns-clause-open g c = open_still c.args.part c.args.answer.now c.requires.open
+    c.args.part c.moved_on.new.tags c.moved_on.ensures.keeps c.ask_body.new.self) c.ask_body.ensures.sets
 
 pub returns-clause-asks : goal.returns-clause-asks
 returns-clause-asks g c = λ i may.
-    body_asked c.args.self.now c.aim.new.self c.args.part c.args.task c.aim.result c.aim.ensures c.requires.reference i may
+    asked_from i.demand c.args.self.now _ c.ask_body.new.self i.world c.args.part (gave c.ask_body.result c.ask_body.new.answer)
+    (same_cost_later c.args.self.now c.aim.new.self c.args.part c.args.task c.aim.result c.aim.ensures c.requires.reference i may
     c.in-Some.aim (c.in_ok-aim.was ∙ ap Ok c.in-Some.is) _ c.in_ok-value.field-0
     (seen_so c.aim.new.self _ c.copy_held.new.self c.in-Some.aim.key c.in_ok-value.field-0 c.self.view_is
     (record { value = c.in_ok-value.ensures.value; touched = c.copy_held.ensures.touched; only = c.copy_held.ensures.only })) c.in_default-2.is
     (c.args.task.depth - 1) (omega (arith, c.if-task-eq0.false)) c.task.result c.task.ensures c.moved_on.new.tags
-    (record { keeps = c.moved_on.ensures.keeps; contexts = c.moved_on.ensures.one_for_one; entered = c.moved_on.ensures.entered }) c.ask.new.self
-    c.in_ok-ask.field-0 c.in_ok-body.body c.in_ok-body.ensures.passed c.in_ok-body.ensures.passed_known
-    c.in_ok-ask.ensures.newest c.in_ok-ask.ensures.rows c.args.answer.now c.requires.open
+    (record { keeps = c.moved_on.ensures.keeps; contexts = c.moved_on.ensures.one_for_one; entered = c.moved_on.ensures.entered }))
+    (c.ask_body.ensures.asks i c.args.task
+    (may_ask_body c.args.self.now c.aim.new.self c.args.part c.args.task c.aim.result c.aim.ensures c.requires.reference i may
+    c.in-Some.aim (c.in_ok-aim.was ∙ ap Ok c.in-Some.is) _ c.in_ok-value.field-0
+    (seen_so c.aim.new.self _ c.copy_held.new.self c.in-Some.aim.key c.in_ok-value.field-0 c.self.view_is
+    (record { value = c.in_ok-value.ensures.value; touched = c.copy_held.ensures.touched; only = c.copy_held.ensures.only })) c.in_default-2.is
+    (c.args.task.depth - 1) (omega (arith, c.if-task-eq0.false)) c.task.result c.task.ensures c.moved_on.new.tags
+    (record { keeps = c.moved_on.ensures.keeps; contexts = c.moved_on.ensures.one_for_one; entered = c.moved_on.ensures.entered })
+    c.in_ok-body.body c.in_ok-body.ensures.passed c.in_ok-body.ensures.passed_known))

@@ -1,0 +1,136 @@
+//! The body of a reference is asked for. Where it is a name, that is looked for at once.
+ghost use Rattle.std.specs.Prelude.{◌≡◌, ◌≢◌, ◌<◌, ℕ, Some, None, IfSome, OnOk, length};
+ghost use Rattle.lucid_tags.specs.Known.{IsKnown, KeepsKnown};
+ghost use Rattle.lucid_tasks.specs.Rows.{IsRow, IsIdlePart, row_at};
+ghost use Rattle.lucid_store.specs.Entries.{value_at};
+ghost use Rattle.lucid_demand.specs.Evaluating.{gave};
+ghost use Rattle.lucid_demand.specs.Acting.{DemandIn};
+ghost use Rattle.lucid_demand.specs.Asking.{MayRefer, AsksIn, SetsPart};
+ghost use Rattle.lucid_demand.specs.Naming.{IsNamedAim, MayAskBody, MayGiveBody};
+
+use crate::DemandFault;
+use crate::turn::Evaluation;
+use lucid_demand_steps::{Aim, Named, moved_on, name_aim};
+use lucid_equations::Node;
+use lucid_retire::Retire;
+use lucid_schedule::Pick;
+use lucid_tasks::{Key, Part, Task};
+use lucid_value::Value;
+
+impl<R: Retire, S: Pick> Evaluation<R, S> {
+    /// Asks for the body of a reference with this key, for a part or for the demand's answer. It has a row, which remembers the key. A name is
+    /// looked up first.
+    #[inline(always)]
+    pub(crate) fn ask_body(
+        &mut self,
+        part: Option<Part>,
+        body: Task,
+        key: Key,
+        answer: &mut Option<Value>,
+    ) -> Result<(), DemandFault>
+        requires idle { IfSome part (IsIdlePart self.old.rows) }
+        requires there { body.node < length self.old.engine.table.nodes }
+        requires known { IsKnown self.old.engine.known body.tag }
+        requires open { answer.old ≡ None }
+        ensures sets { OnOk result (IfSome part (SetsPart self.old self.new)) }
+        ensures open { IfSome part (λ p. answer.new ≡ None) }
+        ensures asks { (i : DemandIn) (x : Task) → MayAskBody i.demand self.old i.world part x body key → AsksIn i.demand self.old self.new i.world part (gave result answer.new) }
+    {
+        match self.program.node(body.node) {
+            Node::Refer { .. } => self.ask_named(part, body, key, answer),
+            _ => {
+                self.tasks.ask(part, body, Some(key))?;
+                Ok(())
+            }
+        }
+    }
+
+    // The same of a body that may be a name. Where the name's value is held, that is the reference's value too. Else the body has a row, which
+    // asks for the name's own body at once.
+    #[inline(never)]
+    fn ask_named(
+        &mut self,
+        part: Option<Part>,
+        body: Task,
+        key: Key,
+        answer: &mut Option<Value>,
+    ) -> Result<(), DemandFault>
+        requires idle { IfSome part (IsIdlePart self.old.rows) }
+        requires there { body.node < length self.old.engine.table.nodes }
+        requires known { IsKnown self.old.engine.known body.tag }
+        requires open { answer.old ≡ None }
+        ensures sets { OnOk result (IfSome part (SetsPart self.old self.new)) }
+        ensures open { IfSome part (λ p. answer.new ≡ None) }
+        ensures asks { (i : DemandIn) (x : Task) → MayAskBody i.demand self.old i.world part x body key → AsksIn i.demand self.old self.new i.world part (gave result answer.new) }
+    {
+        let Some(aim) = self.named_aim(body) else {
+            self.tasks.ask(part, body, Some(key))?;
+            return Ok(());
+        };
+        if let Some(value) = self.copy_held(aim.key)? {
+            return self.give_named(part, key, value, answer);
+        }
+        let slot = self.tasks.ask(part, body, Some(key))?;
+        self.ask_within(slot, body, aim)
+    }
+
+    // A new row's task is a name that isn't held: the name's body is asked for, as its first part. The row's own turn would do no more, and would
+    // look the name up again.
+    #[inline(never)]
+    fn ask_within(&mut self, slot: usize, task: Task, aim: Aim) -> Result<(), DemandFault>
+        requires idle { IsIdlePart self.old.rows (record { slot = slot; index = 0 }) }
+        requires known { IsKnown self.old.engine.known task.tag }
+        requires named { IsNamedAim self.old task aim }
+        ensures rows { OnOk result ((q : ℕ) → IsRow self.old.rows q → q ≢ slot → row_at self.new.rows q ≡ row_at self.old.rows q) }
+        ensures only { self.new.engine ≡ record self.old.engine { known = self.new.engine.known } }
+        ensures keeps { KeepsKnown self.old.engine.known self.new.engine.known }
+        ensures asks { (i : DemandIn) → MayRefer i.demand self.old i.world (Some (record { slot = slot; index = 0 })) task → value_at self.old.engine.stored aim.key ≡ None
+            → AsksIn i.demand self.old self.new i.world (Some (record { slot = slot; index = 0 })) (gave result None) }
+    {
+        if task.depth == 0 {
+            return Err(DemandFault::TooDeep);
+        }
+        let body = moved_on(&self.program, &mut self.tags, aim.task(task.depth - 1))?;
+        self.tasks.ask(Some(Part { slot, index: 0 }), body, Some(aim.key))?;
+        Ok(())
+    }
+
+    // A value that another name has is put under a key, and given. The policy has its turn before and after, so that it is told of each key that
+    // is touched, and nothing is put past its room.
+    #[inline(never)]
+    fn give_named(
+        &mut self,
+        part: Option<Part>,
+        key: Key,
+        value: Value,
+        answer: &mut Option<Value>,
+    ) -> Result<(), DemandFault>
+        requires idle { IfSome part (IsIdlePart self.old.rows) }
+        requires open { answer.old ≡ None }
+        ensures sets { OnOk result (IfSome part (SetsPart self.old self.new)) }
+        ensures open { IfSome part (λ p. answer.new ≡ None) }
+        ensures asks { (i : DemandIn) (x y : Task) → MayGiveBody i.demand self.old i.world part x y key value → AsksIn i.demand self.old self.new i.world part (gave result answer.new) }
+    {
+        self.drop_values();
+        self.put(key, &value)?;
+        self.give(part, value, answer);
+        self.drop_values();
+        Ok(())
+    }
+
+    // What a task goes on with, if it is a name that leads somewhere.
+    #[inline(always)]
+    fn named_aim(&self, task: Task) -> Option<Aim>
+        requires there { task.node < length self.now.engine.table.nodes }
+        requires known { IsKnown self.now.engine.known task.tag }
+        ensures { IfSome result (IsNamedAim self.now task) }
+    {
+        match self.program.node(task.node) {
+            Node::Refer { name, level } => {
+                let named = Named { name, level };
+                name_aim(&self.program, &self.tags, named, task.tag, task.time)
+            }
+            _ => None,
+        }
+    }
+}
