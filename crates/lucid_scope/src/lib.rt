@@ -5,6 +5,7 @@ pub use crate::refusal::ScopeRefusal;
 pub use crate::resolution::{resolve, resolve_owned};
 pub use crate::scoped::{Binding, Scoped};
 
+mod hashing;
 pub mod laws;
 mod marks;
 mod refusal;

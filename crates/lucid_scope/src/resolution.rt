@@ -5,6 +5,7 @@ ghost use Rattle.lucid_tree.specs.WellMade.{IsWellMade};
 ghost use Rattle.lucid_scope.specs.Bindings.{HasNoFault, IsLeastFault, IsResolved};
 ghost use Rattle.lucid_scope.specs.Scoped.{scoped_tree};
 
+use crate::hashing::NameHashing;
 use crate::refusal::ScopeRefusal;
 use crate::scoped::{Binding, Scoped};
 use crate::settle::{bindings_of, first_fault, inputs_of};
@@ -27,7 +28,8 @@ fn find(alloc: Global, tree: &Tree) -> Result<Found, ScopeRefusal>
     ensures no_fault { OnOk result (HasNoFault tree.now) }
     ensures fault { IfErr result (λ refusal. (refusal ≡ ScopeRefusal.NoMemory) ⊎ IsLeastFault tree.now refusal) }
 {
-    let mut walk = Walk::make(alloc);
+    let hashing = NameHashing::of_tree(alloc, tree)?;
+    let mut walk = Walk::make(alloc, hashing);
     walk_tree(alloc, &mut walk, tree)?;
     let mut marks = walk.into_marks();
     marks.sort_by_key(|mark| mark.at)?;
@@ -35,7 +37,7 @@ fn find(alloc: Global, tree: &Tree) -> Result<Found, ScopeRefusal>
         Some(fault) => return Err(fault),
         None => {}
     }
-    let inputs = inputs_of(alloc, &marks)?;
+    let inputs = inputs_of(alloc, hashing, &marks)?;
     let bindings = bindings_of(alloc, &inputs, &marks)?;
     Ok(Found {
         inputs: inputs.into_names(),

@@ -4,6 +4,7 @@ ghost use Rattle.std.specs.Map.{lookup};
 ghost use Rattle.lucid_scope.specs.Settled.{OwnerFits, Fits, mark_fault, owner_fault, owner_call_fault, IsFirstFault, with_mark, with_owner_input, owner_binding, mark_binding, ArePlacesDifferent};
 ghost use Rattle.lucid_scope.specs.Keys.{key_bytes};
 
+use crate::hashing::NameHashing;
 use crate::marks::{Mark, What};
 use crate::refusal::ScopeRefusal;
 use crate::scoped::Binding;
@@ -68,7 +69,7 @@ pub(crate) fn first_fault(marks: &[Mark]) -> Option<ScopeRefusal>
 fn add_input(
     alloc: Global,
     names: &mut Vec<Name>,
-    set: &mut IndexSet<Vec<u8>>,
+    set: &mut IndexSet<Vec<u8>, NameHashing>,
     name: &Name,
 ) -> Result<(), AllocError>
     requires { map key_bytes set.old.keys ≡ names.old.items }
@@ -86,7 +87,7 @@ fn add_input(
 #[derive(Drop)]
 pub(crate) struct Inputs {
     pub(crate) names: Vec<Name>,
-    set: IndexSet<Vec<u8>>,
+    set: IndexSet<Vec<u8>, NameHashing>,
     ghost same: { map key_bytes set.keys ≡ names.items },
 }
 
@@ -101,11 +102,15 @@ impl Inputs {
 }
 
 /// The free names of the marks, in order, without repeats.
-pub(crate) fn inputs_of(alloc: Global, marks: &[Mark]) -> Result<Inputs, AllocError>
+pub(crate) fn inputs_of(
+    alloc: Global,
+    hashing: NameHashing,
+    marks: &[Mark],
+) -> Result<Inputs, AllocError>
     ensures { IfOk result (λ inputs. inputs.names.items ≡ fold with_mark [] marks.now) }
 {
     let mut names = Vec::new(alloc);
-    let mut set = IndexSet::new(alloc);
+    let mut set = IndexSet::with_hasher(alloc, hashing);
     for mark in marks {
         match &mark.what {
             What::Named { name, owner: None } => add_input(alloc, &mut names, &mut set, name)?,

@@ -107,7 +107,7 @@ fn open<'a>(
 {
     let saved = table::enter_block(alloc, &mut walk.table, defs)?;
     steps.push(Step::Close(saved))?;
-    let seen = Table::make(alloc);
+    let seen = Table::make(alloc, walk.table.hashing());
     let defs = defs.definitions();
     steps.push(Step::Inside { defs, seen })?;
     begin(walk, steps, subject)

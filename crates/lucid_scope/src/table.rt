@@ -5,6 +5,7 @@ ghost use Rattle.lucid_tree.specs.DefsView.{one_def};
 ghost use Rattle.lucid_tree.specs.Tree.{no_defs};
 ghost use Rattle.lucid_scope.specs.Owners.{look, with_owner, put_back, or_outer, definition_owner, parameter_owner};
 
+use crate::hashing::NameHashing;
 use indexmap::IndexMap;
 use lucid_tree::{Def, DefKind, Defs, Names};
 use lucid_value::Name;
@@ -22,7 +23,8 @@ pub(crate) enum Owner {
 /// The owner of each name in scope. A name has `None` where it had an owner in a scope that is left.
 #[derive(Drop)]
 pub(crate) struct Table {
-    rows: IndexMap<Vec<u8>, Option<Owner>>,
+    hashing: NameHashing,
+    rows: IndexMap<Vec<u8>, Option<Owner>, NameHashing>,
 }
 
 /// What a name belonged to outside a scope that hides it.
@@ -34,12 +36,18 @@ pub(crate) struct Saved {
 
 impl Table {
     /// No name is in scope.
-    pub(crate) fn make(alloc: Global) -> Table
+    pub(crate) fn make(alloc: Global, hashing: NameHashing) -> Table
         ensures { (n : List ℕ) → look result n ≡ None }
     {
         Table {
-            rows: IndexMap::new(alloc),
+            hashing,
+            rows: IndexMap::with_hasher(alloc, hashing),
         }
+    }
+
+    /// How its names are hashed.
+    pub(crate) fn hashing(&self) -> NameHashing {
+        self.hashing
     }
 
     /// What the name belongs to.

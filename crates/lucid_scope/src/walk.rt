@@ -4,6 +4,7 @@ ghost use Rattle.lucid_scope.specs.Sites.{repeats, again_if, no_names, also};
 ghost use Rattle.lucid_scope.specs.Owners.{look};
 ghost use Rattle.lucid_scope.specs.Walks.{mark, Notes, is_seen};
 
+use crate::hashing::NameHashing;
 use crate::marks::{Mark, What};
 use crate::table::{Owner, Table};
 use lucid_tree::{Names, Places32};
@@ -19,12 +20,12 @@ pub(crate) struct Walk {
 
 impl Walk {
     /// No name is in scope, and nothing is noted.
-    pub(crate) fn make(alloc: Global) -> Walk
+    pub(crate) fn make(alloc: Global, hashing: NameHashing) -> Walk
         ensures table { (n : List ℕ) → look result.table n ≡ None }
         ensures marks { result.marks.items ≡ [] }
     {
         Walk {
-            table: Table::make(alloc),
+            table: Table::make(alloc, hashing),
             marks: Vec::new(alloc),
         }
     }
@@ -93,7 +94,7 @@ pub(crate) fn note_repeats(
 ) -> Result<(), AllocError>
     ensures { OnOk result (Notes walk.old walk.new (map mark (repeats no_names names.now places.now))) }
 {
-    let mut seen = Table::make(alloc);
+    let mut seen = Table::make(alloc, walk.table.hashing());
     let names = names.items();
     let places = places.items();
     let mut i = 0;
