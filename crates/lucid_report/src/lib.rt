@@ -3,7 +3,7 @@
 #![tactic(auto)]
 
 pub use crate::refusal::Refusal;
-pub use crate::report::tell;
+pub use crate::report::{tell, write_outcome};
 pub use crate::status::Status;
 pub use crate::stop::{Done, Stop};
 
