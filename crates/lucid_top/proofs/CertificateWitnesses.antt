@@ -261,11 +261,11 @@ check-witness longest c is = record {
   checks = is_check longest c is;
   writes = λ p q s m e.
       by_done c p q s m (c.out_after.bytes ≡ Some (codes "7 at 0\n"))
-      (λ o same. written longest c is o (subst (EndsCheck (is_check longest c is)) (sym same) (m.checked (is_check longest c is) (tells longest c is)))) e;
+      (λ o same. written longest c is o (subst (EndsCheck (is_check longest c is)) (sym same) (m.met.checked (is_check longest c is) (tells longest c is)))) e;
   is_done = λ p q s m reads writes.
       by_status c p q s m
-      (λ o same. ended longest c is o (subst (EndsCheck (is_check longest c is)) (sym same) (m.checked (is_check longest c is) (tells longest c is)))
-      (subst (ComesOnly c) (sym same) m.comes_only) reads writes);
+      (λ o same. ended longest c is o (subst (EndsCheck (is_check longest c is)) (sym same) (m.met.checked (is_check longest c is) (tells longest c is)))
+      (subst (ComesOnly c) (sym same) m.met.comes_only) reads writes);
 }
 
 -- The making.
@@ -363,10 +363,10 @@ making-witness longest c is = record {
   makes = is_making longest c is;
   writes = λ p q s m e.
       by_done c p q s m (IsWritten longest c is)
-      (λ o same. text_written longest c is o (subst (EndsMaking (is_making longest c is)) (sym same) (m.made (is_making longest c is) (tells_files longest c is))))
+      (λ o same. text_written longest c is o (subst (EndsMaking (is_making longest c is)) (sym same) (m.met.made (is_making longest c is) (tells_files longest c is))))
       e;
   is_done = λ p q s m reads writes.
       by_status c p q s m
-      (λ o same. ended_so longest c is o (subst (EndsMaking (is_making longest c is)) (sym same) (m.made (is_making longest c is) (tells_files longest c is)))
-      (subst (ComesOnly c) (sym same) m.comes_only) reads writes);
+      (λ o same. ended_so longest c is o (subst (EndsMaking (is_making longest c is)) (sym same) (m.met.made (is_making longest c is) (tells_files longest c is)))
+      (subst (ComesOnly c) (sym same) m.met.comes_only) reads writes);
 }

@@ -249,10 +249,10 @@ columns-witness longest read c is = record {
   writes = λ p q s m e.
       by_done c p q s m (c.out_after.bytes ≡ Some numbers_twice)
       (λ o same. written longest read c is o (subst (Runs longest read c is) (sym same)
-      (m.headline (runs longest read c is) (tells longest read c is) (b longest read c is) (has_elements longest read c is)))) e;
+      (m.met.headline (runs longest read c is) (tells longest read c is) (b longest read c is) (has_elements longest read c is)))) e;
   is_done = λ p q s m reads writes.
       by_status c p q s m
       (λ o same. ended longest read c is o (subst (Runs longest read c is) (sym same)
-      (m.headline (runs longest read c is) (tells longest read c is) (b longest read c is) (has_elements longest read c is)))
-      (subst (ComesOnly c) (sym same) m.comes_only) reads writes);
+      (m.met.headline (runs longest read c is) (tells longest read c is) (b longest read c is) (has_elements longest read c is)))
+      (subst (ComesOnly c) (sym same) m.met.comes_only) reads writes);
 }

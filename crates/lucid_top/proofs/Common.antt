@@ -39,7 +39,7 @@ pub use Rattle.lucid_cert_rules.specs.Follows.{AllFollow, IsRight, contexts}
 pub use Rattle.lucid_top.specs.Call.{Call}
 pub use Rattle.lucid_top.specs.Certificates.{HeldCertificate, HoldsCertificate, RefusesCertificate, by_judgment, by_size, most_certificate_bytes}
 pub use Rattle.lucid_top.specs.Checks.{CheckComesOnly, Checks, ChecksTree, ConsumesFor, EndsSo, IsCheckStop, IsLast, IsLastLine, IsProvedLine, IsStopped, LiesPast, NoneTellsPast, Proves, TellsPast, looked_at}
-pub use Rattle.lucid_top.specs.Clauses.{ComesOnly, ConsumesNothing, EndsCheck, EndsMaking, MeetsClauses, ReadFails, TellsFiles, WritesNothing, before_checking, before_making, by_checking, by_making}
+pub use Rattle.lucid_top.specs.Clauses.{ComesOnly, ConsumesNothing, EndsCheck, EndsMaking, MeetsClauses, MeetsOutcome, ReadFails, TellsFiles, WritesNothing, before_checking, before_making, by_checking, by_making}
 pub use Rattle.lucid_top.specs.Coming.{Comes, IsMade, IsOfMade, MayBegin, ProvesTable, Rests, RunsTable, reaches_certificate, reaches_checked, reaches_inputs, reaches_made, reaches_nothing, reaches_source}
 pub use Rattle.lucid_top.specs.Files.{AreRightBelow, FitsGiven, Given, RefusedFirst, RefusesGiven, by_two, by_word, file_given, files_for, refusal_at, word_refusal}
 pub use Rattle.lucid_top.specs.Flat.{HasTable, RefusesFlat, SpellsTable, by_length, by_line, by_row, most_flat_bytes}

@@ -273,8 +273,8 @@ module _ (c : Call) (g : RunsProgram c) where
 
   pub headline : (p q : Told) (s : Status) → MeetsClauses c p q s → Headline g s
   headline p q s m =
-      let both = by_outcome (m.gives is_run tells) m.outcome m.comes_only (plainly (run_result m.outcome) (λ result. Ran (stream_subject (tree_stream g.program)) b view result)
-      (λ result. Figures (program_counted (of_tree g.program)) b view result) (m.headline is_run tells b has_elements)) in
+      let both = by_outcome (m.met.gives is_run tells) m.outcome m.met.comes_only (plainly (run_result m.outcome) (λ result. Ran (stream_subject (tree_stream g.program)) b view result)
+      (λ result. Figures (program_counted (of_tree g.program)) b view result) (m.met.headline is_run tells b has_elements)) in
       elim m.report [
         | inl whole_line ↦ subst (Headline g) (sym whole_line.0) both.0
         | inr other ↦ elim other [ inl front ↦ subst (Headline g) (sym front.0) both.0 | inr none ↦ subst (Headline g) (sym none.0) both.1 ]

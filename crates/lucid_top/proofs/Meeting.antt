@@ -1,10 +1,9 @@
 -- From how a call comes to its outcome to the clauses of the command.
-use Rattle.lucid_top.proofs.Common.{◌++◌, WantsInputs, inputs_in, files_for, by_tree, task_of, option_map, all_bytes, ◌≡◌, ℕ, ◌<◌, ◌≤◌, Bool, true, false, nat_lt, List, [], length, Some, None, Err, ◌⊎◌, inl, inr, refl, ap, subst, arith, Contents, PlainWords, Told, Refusal, Status, Outcome, Call, form_of, is_certificate, time_asked, Asks, IsWriting, IsTextFor, asks_for, IsRun, by_words, by_text, by_flat, by_names, by_missing, by_judging, by_given, first_place, run_places, run_of, unread_place, view_of, RanSo, ReadsSource, most_read, WritesNothing, TellsFiles, ReadFails, ComesOnly, MeetsClauses, IsMade, reaches_nothing, reaches_source, reaches_inputs, Rests, Comes, ltb-true, ChecksTree, ConsumesNothing, EndsCheck, EndsMaking, HasFiles, IsCheck, IsMaking, IsWellMade, MakesTree, MayCheck, Task, ReadsCertificate, Run, before_checking, before_making, by_certificate, by_checking, by_making, certificate_of, first_input, reaches_certificate, reaches_checked, reaches_made}
+use Rattle.lucid_top.proofs.Common.{◌++◌, WantsInputs, inputs_in, files_for, by_tree, task_of, option_map, all_bytes, ◌≡◌, ℕ, ◌<◌, ◌≤◌, Bool, true, false, nat_lt, List, [], length, Some, None, Err, ◌⊎◌, inl, inr, refl, ap, subst, arith, Contents, PlainWords, Refusal, Outcome, Call, form_of, is_certificate, time_asked, Asks, IsWriting, IsTextFor, asks_for, IsRun, by_words, by_text, by_flat, by_names, by_missing, by_judging, by_given, first_place, run_places, run_of, unread_place, view_of, RanSo, ReadsSource, most_read, WritesNothing, TellsFiles, ReadFails, ComesOnly, MeetsOutcome, IsMade, reaches_nothing, reaches_source, reaches_inputs, Rests, Comes, ltb-true, ChecksTree, ConsumesNothing, EndsCheck, EndsMaking, HasFiles, IsCheck, IsMaking, IsWellMade, MakesTree, MayCheck, Task, ReadsCertificate, Run, before_checking, before_making, by_certificate, by_checking, by_making, certificate_of, first_input, reaches_certificate, reaches_checked, reaches_made}
 use Rattle.std.proofs.Common.{cond}
 use Rattle.lucid_ports.specs.declared.run.RunFault.TheVariants as fault
 use Rattle.lucid_report.specs.declared.refusal.Refusal.TheVariants as refusal
 use Rattle.lucid_report.specs.declared.stop.Stop.TheVariants as stop
-use Rattle.lucid_report.specs.Telling.{Tells}
 use Rattle.lucid_top.specs.Stages.{Refuses}
 use Rattle.lucid_top.specs.Clauses.{IsRefusedSo, Writes, TellsFaults, EndsAtFaults, IsEvaluated, places_before}
 use Rattle.lucid_top.specs.Runs.{under, GivesBytes}
@@ -341,14 +340,11 @@ silent_or c o (inr (inr (inl writing))) = inr (inr (inl writing.0))
 silent_or c o (inr (inr (inr (inl check)))) = inr (inr (inr (inl check.0)))
 silent_or c o (inr (inr (inr (inr made)))) = inr (inr (inr (inr made.0)))
 
-pub meets : OneVerdict → (c : Call) (before after : Told) (o : Outcome) (s : Status) → Comes c o
+pub meets : OneVerdict → (c : Call) (o : Outcome) → Comes c o
     → ((a : Asks c) → ReadsSource (most_read (form_of a.words)) a.words.source c.after)
     → ((a : Asks c) → ReadsCertificate a.words c.after) → ((w : PlainWords) → c.asked ≡ Some w → AsksSo c w)
-    → (c.asked ≡ None → c.after.asked ≡ c.before.asked) → TellsFaults c o → EndsAtFaults c before after → Tells o s before after
-    → MeetsClauses c before after s
-meets l c before after o s h within certificate asks unasked faults late tells = record {
-  outcome = o;
-  report = tells;
+    → (c.asked ≡ None → c.after.asked ≡ c.before.asked) → TellsFaults c o → EndsAtFaults c → MeetsOutcome c o
+meets l c o h within certificate asks unasked faults late = record {
   comes_only = h.only;
   tells_faults = faults;
   late = late;

@@ -97,11 +97,10 @@ pub record TellsFaults (c : Call) (o : Outcome) : Type 0 where
   pub reads : CountsNoRead o c.before c.after
   pub writes : CountsNoWrite o c.out_before.faults c.out_after.faults
 
--- A fault ends it: after one nothing is asked of the places, nothing is written to the output, and nothing to the report.
-pub record EndsAtFaults (c : Call) (report_before report_after : Told) : Type 0 where
+-- A fault ends it: after one nothing is asked of the places, and nothing is written to the output.
+pub record EndsAtFaults (c : Call) : Type 0 where
   pub reads : AsksNoneLate c.before c.after
   pub writes : WritesNoneLate c.out_before c.out_after
-  pub report : WritesNoneLate report_before report_after
 
 -- the outcome of a run that came to evaluate its program
 abbrev pub IsEvaluated : Outcome → Type 0
@@ -139,16 +138,13 @@ pub record AsksNames (c : Call) : Type 0 where
   pub checked : (k : IsCheck c) → TellsFiles c → AsksFront (names_for (certificate_of k.may).words (certificate_of k.may).inputs) c.before c.after
   pub made : (m : IsMaking c) → TellsFiles c → AsksFront (names_for (certificate_of m).words (certificate_of m).inputs) c.before c.after
 
--- The clauses, of a call, what its report tells before and after, and its status. They are said of one outcome, of which the status and
--- the line of the report are told.
-pub record MeetsClauses (c : Call) (report_before report_after : Told) (s : Status) : Type 0 where
-  pub outcome : Outcome
-  pub report : Tells outcome s report_before report_after
+-- The clauses of a call and of how it ended.
+pub record MeetsOutcome (c : Call) (outcome : Outcome) : Type 0 where
   -- When each outcome comes; that a fault comes wherever a call failed, and a refusal wherever it is the first.
   pub comes_only : ComesOnly c outcome
   pub tells_faults : TellsFaults c outcome
   -- No failed call is tried again or passed over.
-  pub late : EndsAtFaults c report_before report_after
+  pub late : EndsAtFaults c
   pub refused_where : RefusedWhere c outcome
   -- Nothing is written but by a run or a check, or where a text or a certificate is asked for.
   pub silent : WritesNothing c ⊎ (IsRun c ⊎ (IsWriting c ⊎ (IsCheck c ⊎ IsMaking c)))
@@ -172,3 +168,11 @@ pub record MeetsClauses (c : Call) (report_before report_after : Told) (s : Stat
   -- So it is of the certificate's.
   pub certificate_within : (a : Asks c) → ReadsCertificate a.words c.after
   pub few_places : c.after.reached ≤ most_places
+
+-- The clauses, of a call, what its report tells before and after, and its status. They are said of one outcome, of which the status and
+-- the line of the report are told; and after a fault of the report nothing is written to it.
+pub record MeetsClauses (c : Call) (report_before report_after : Told) (s : Status) : Type 0 where
+  pub outcome : Outcome
+  pub met : MeetsOutcome c outcome
+  pub report : Tells outcome s report_before report_after
+  pub report_late : WritesNoneLate report_before report_after

@@ -6,7 +6,7 @@
 pub use crate::arguments::lucid_from_arguments;
 pub use crate::certificates::{Certified, make_why};
 pub use crate::task::Task;
-pub use crate::top::{lucid, lucid_under};
+pub use crate::top::{lucid, lucid_under, outcome_of};
 pub use crate::writing::write_out;
 
 mod arguments;

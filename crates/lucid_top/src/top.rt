@@ -7,7 +7,7 @@ ghost use Rattle.lucid_session.specs.Runs.{policy_view};
 ghost use Rattle.lucid_top.specs.Call.{call};
 ghost use Rattle.lucid_top.specs.Tasks.{task_of};
 ghost use Rattle.lucid_top.specs.Coming.{Does, MayBegin};
-ghost use Rattle.lucid_top.specs.Clauses.{MeetsClauses};
+ghost use Rattle.lucid_top.specs.Clauses.{MeetsClauses, MeetsOutcome};
 ghost use Rattle.lucid_top.specs.Headline.{HasHeadline};
 ghost use Rattle.lucid_top.specs.Parts.{call_of};
 
@@ -97,6 +97,40 @@ fn do_task_under<R: Retire, S: Pick, P: Places, K: Sink>(
     do_words(alloc, &words, choices, places, out)
 }
 
+/// Does what the words ask for and writes to `out`. Nothing is reported: how the call ended is given. The words are those after the
+/// command's own name.
+pub fn outcome_of<P: Places, K: Sink>(
+    alloc: Global,
+    words: &[String],
+    places: &mut P,
+    out: &mut K,
+) -> Result<Done, Stop>
+    requires { (P.world places.old).reached ≡ 0 }
+    ensures { MeetsOutcome
+        (call (words_asked (map string_bytes words.now)) (P.world places.old) (P.world places.new) (told K.written K.faults K.late out.old) (told K.written K.faults K.late out.new))
+        result }
+{
+    one_verdict();
+    do_task(alloc, words, places, out)
+}
+
+// The same by choices that are given.
+fn outcome_under<R: Retire, S: Pick, P: Places, K: Sink>(
+    alloc: Global,
+    words: &[String],
+    choices: Choices<R, S>,
+    places: &mut P,
+    out: &mut K,
+) -> Result<Done, Stop>
+    requires { (P.world places.old).reached ≡ 0 }
+    ensures { MeetsOutcome
+        (call_of P.world K.written K.faults K.late (policy_view R.keeps R.empties R.most choices.policy) (words_asked (map string_bytes words.now)) places.old places.new out.old out.new)
+        result }
+{
+    one_verdict();
+    do_task_under(alloc, words, choices, places, out)
+}
+
 /// The command: does what the words ask for, writes to `out`, and reports on `report` how it ended. The words are those after the
 /// command's own name.
 pub fn lucid<P: Places, K: Sink, E: Sink>(
@@ -111,8 +145,7 @@ pub fn lucid<P: Places, K: Sink, E: Sink>(
         (call (words_asked (map string_bytes words.now)) (P.world places.old) (P.world places.new) (told K.written K.faults K.late out.old) (told K.written K.faults K.late out.new))
         (told E.written E.faults E.late report.old) (told E.written E.faults E.late report.new) result }
 {
-    one_verdict();
-    let outcome = do_task(alloc, words, places, out);
+    let outcome = outcome_of(alloc, words, places, out);
     tell(report, &outcome)
 }
 
@@ -135,7 +168,6 @@ pub fn lucid_under<R: Retire, S: Pick, P: Places, K: Sink, E: Sink>(
         (call_of P.world K.written K.faults K.late (policy_view R.keeps R.empties R.most policy) (words_asked (map string_bytes words.now)) places.old places.new out.old out.new)
         result }
 {
-    one_verdict();
-    let outcome = do_task_under(alloc, words, Choices { policy, pick }, places, out);
+    let outcome = outcome_under(alloc, words, Choices { policy, pick }, places, out);
     tell(report, &outcome)
 }
