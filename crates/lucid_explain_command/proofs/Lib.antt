@@ -3,3 +3,4 @@ pub mod Explaining
 pub mod ReadAgain
 pub mod Making
 pub mod LinesSeen
+pub mod FirstKept

@@ -1,4 +1,5 @@
 pub mod Prompted
+pub mod Keeping
 pub mod Noting
 pub mod Watching
 pub mod Behind

@@ -4,7 +4,9 @@
 
 pub use crate::command::{lucid_explain, lucid_explain_from_arguments};
 pub use crate::help::text_asked;
+pub use crate::kept::Kept;
 pub use crate::noted::Noted;
+pub use crate::remembering::Remembering;
 pub use crate::watched::Watched;
 
 mod again;
@@ -13,6 +15,8 @@ mod certified;
 mod command;
 mod errors;
 mod help;
+mod kept;
 mod noted;
 mod prompt;
+mod remembering;
 mod watched;
