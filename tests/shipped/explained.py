@@ -25,12 +25,15 @@ def a_source_is_explained(run):
     run.explaining().lucid("p").must("", 1, text)
 
 
+DIVISION = "Division is `div`, and what it leaves over is `mod`. A comment begins with `//`.\n"
+
+
 @case
-def a_pipe_is_read_once(run):
+def a_pipe_is_explained(run):
     os.mkfifo(run.path("pipe"))
     ended = run.explaining().shell("printf '1 / 2' > pipe & exec \"$LUCID\" pipe")
-    said = "The source is no regular file, so it can't be read again: its place isn't shown.\n"
-    ended.must("", 1, "bad byte at 2\n" + said)
+    ended.must("", 1, "bad byte at 2\npipe:1:3:\n1 / 2\n  ^\n" + DIVISION)
+    run.explaining().lucid("-", given=b"1 / 2").must("", 1, "bad byte at 2\n-:1:3:\n1 / 2\n  ^\n" + DIVISION)
 
 
 @case
@@ -107,6 +110,14 @@ def the_first_error_is_traced(run):
     run.source("t where t = (hd 1) fby t; end")
     said = "The value at time 0 is `error`.\nt at time 0 is `error`.\np:1:14:\nt where t = (hd 1) fby t; end\n" + " " * 13 + "^\nAt time 0 `hd` gets 1: it wants a list.\n"
     run.explaining().lucid("p", "--count=3").must(lines("error", "error", "error"), 0, said)
+
+
+@case
+def an_error_of_a_piped_program_is_traced(run):
+    os.mkfifo(run.path("pipe"))
+    said = "The value at time 0 is `error`.\nt at time 0 is `error`.\npipe:1:14:\nt where t = (hd 1) fby t; end\n" + " " * 13 + "^\nAt time 0 `hd` gets 1: it wants a list.\n"
+    ended = run.explaining().shell("printf 't where t = (hd 1) fby t; end' > pipe & exec \"$LUCID\" --count=1 pipe")
+    ended.must(lines("error"), 0, said)
 
 
 @case

@@ -5,7 +5,7 @@ ghost use Rattle.std.specs.Prelude.{◌≡◌, ◌≢◌, Ok, Err, OnOk};
 ghost use Rattle.std.specs.Process.{exit_status};
 ghost use Rattle.lucid_report.specs.Status.{code_of};
 
-use lucid_explain_command::{Watched, lucid_explain_from_arguments, text_asked};
+use lucid_explain_command::{Remembering, Watched, lucid_explain_from_arguments, text_asked};
 use lucid_explain_report::RealOutlook;
 use lucid_ports::{PortFault, RealPlaces, RealSink, write_whole};
 use lucid_report::{Done, Refusal, Status, Stop, tell};
@@ -57,7 +57,7 @@ fn real_status(rt: &HostRuntime) -> Status {
         let outcome = outcome_of(write_whole(&mut out, text));
         return tell(&mut report, &outcome);
     }
-    let mut places = RealPlaces::make(rt.alloc(), rt);
+    let mut places = Remembering::make(rt.alloc(), RealPlaces::make(rt.alloc(), rt));
     let outlook = RealOutlook::make(rt);
     lucid_explain_from_arguments(
         rt.alloc(),

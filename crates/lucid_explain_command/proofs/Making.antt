@@ -1,5 +1,5 @@
 -- A call with an output and a report in memory, and a certificate that it makes.
-use Rattle.lucid_explain_command.proofs.Common.{◌≡◌, ℕ, List, [], ◌∷◌, map, subst, Option, Text, given_file}
+use Rattle.lucid_explain_command.proofs.Common.{◌≡◌, ℕ, List, [], map, subst, Option, Text, given_file}
 use Rattle.lucid_ports.specs.World.{World}
 use Rattle.lucid_ports.specs.Told.{Told}
 use Rattle.lucid_ports.specs.declared.files.MemoryFile.{MemoryFile}
@@ -8,7 +8,7 @@ use Rattle.lucid_words.specs.Asked.{PlainWords}
 use Rattle.lucid_top.specs.Call.{call}
 use Rattle.lucid_top.specs.Clauses.{MeetsClauses}
 use Rattle.lucid_explain_report.specs.Files.{Files}
-use Rattle.lucid_explain_command.specs.Errors.{in_memory, plain_file, as_named, AreReadAgain, why_words, Calls, IsMade}
+use Rattle.lucid_explain_command.specs.Errors.{in_memory, plain_file, as_named, file_read, Adds, why_words, Calls, IsMade}
 
 -- the output is empty before the call
 pub out_empty : (asked : Option PlainWords) (w v : World) (bytes : List ℕ) (faults late : ℕ) (out before after : Told) (s : Status) → bytes ≡ [] → faults ≡ 0
@@ -20,9 +20,9 @@ out_empty asked w v bytes faults late out before after s e f l clauses =
     subst R l (subst Q f (subst P e clauses))
 
 -- a certificate that a call over the files makes
-pub made_by : (files : Files) (words again : List Text) (asked : PlainWords) (name : Text) (time : ℕ) (those : List MemoryFile) (found : Option (List ℕ))
-    → AreReadAgain files (as_named name ∷ map as_named (map given_file asked.given)) (map plain_file those) → again ≡ why_words time words
-    → Calls again those found → IsMade files words asked name time found
-made_by files words again asked name time those found read same calls =
+pub made_by : (files : Files) (words again : List Text) (asked : PlainWords) (name : Text) (source : List ℕ) (time : ℕ) (those : List MemoryFile) (found : Option (List ℕ))
+    → Adds files (map as_named (map given_file asked.given)) (file_read name source) (map plain_file those) → again ≡ why_words time words
+    → Calls again those found → IsMade files words asked name source time found
+made_by files words again asked name source time those found read same calls =
     let P : List Text → Type 0 = λ z. Calls z those found in
     record { those = those; again = read; calls = subst P same calls }

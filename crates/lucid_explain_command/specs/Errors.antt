@@ -16,7 +16,7 @@ use Rattle.lucid_explain_run.specs.Prompts.{TellsPrompt}
 use Rattle.lucid_explain_errors.specs.declared.inputs.Input.{Input}
 use Rattle.lucid_explain_errors.specs.Errors.{TellsError}
 use Rattle.lucid_explain_report.specs.Files.{Files, Held, holds, unread, gone, IsSeen}
-use Rattle.lucid_explain_report.specs.Said.{past_source, past_certificate, names_given, given_file, source_file}
+use Rattle.lucid_explain_report.specs.Said.{past_certificate, names_given, given_file, source_file}
 use Rattle.lucid_explain_command.specs.Prompted.{asks_lines, asks_columns}
 
 -- a sink in memory of which these bytes are written
@@ -87,10 +87,14 @@ pub record Calls (words : List Text) (files : List MemoryFile) (found : Option (
   pub clauses : MeetsClauses (call (words_asked words) before after (in_memory [] 0 0) (in_memory written faults late)) (in_memory [] 0 0) report_after ended
   pub finds : Finds ended written found
 
--- So the certificate of a time is made again: by files in memory, which are those of the words that are read again, the source's before the inputs'.
-pub record IsMade (files : Files) (words : List Text) (asked : PlainWords) (name : Text) (time : ℕ) (found : Option (List ℕ)) : Type 0 where
+-- The file of the source, as it was read; where that was the standard input, which may hold an input too, there is none.
+abbrev pub file_read : (name : Text) → (source : List ℕ) → List (Text × List ℕ)
+file_read name source = labelled name (if is_standard name then None else Some source)
+
+-- So the certificate of a time is made again: by files in memory, which are that of the source and those of the inputs that are read again.
+pub record IsMade (files : Files) (words : List Text) (asked : PlainWords) (name : Text) (source : List ℕ) (time : ℕ) (found : Option (List ℕ)) : Type 0 where
   pub those : List MemoryFile
-  pub again : AreReadAgain files (as_named name ∷ map as_named (map given_file asked.given)) (map plain_file those)
+  pub again : Adds files (map as_named (map given_file asked.given)) (file_read name source) (map plain_file those)
   pub calls : Calls (why_words time words) those found
 
 -- Where none is made, the only input without a file is told, which the standard input gave; nothing, where that is a terminal.
@@ -110,23 +114,18 @@ SaysMade files asked name source certificate text =
 
 -- So the text tells of the value at a time.
 pub data SaysOfTime (files : Files) (terminal : Bool) (words : List Text) (asked : PlainWords) (name : Text) (source : List ℕ) (time : ℕ) (text : List ℕ) : Type 0 where
-  not_made : IsMade files words asked name time None → SaysUnmade terminal asked source text → SaysOfTime files terminal words asked name source time text
-  made : (certificate : List ℕ) → IsMade files words asked name time (Some certificate) → SaysMade files asked name source certificate text
+  not_made : IsMade files words asked name source time None → SaysUnmade terminal asked source text → SaysOfTime files terminal words asked name source time text
+  made : (certificate : List ℕ) → IsMade files words asked name source time (Some certificate) → SaysMade files asked name source certificate text
       → SaysOfTime files terminal words asked name source time text
-
--- By what is seen of the program's file; nothing, where that isn't read again.
-abbrev pub SaysBySeen : Files → (terminal : Bool) → (words : List Text) → PlainWords → (name : Text) → (seen : Held) → (time : ℕ) → (text : List ℕ) → Type 0
-SaysBySeen files terminal words asked name (holds source) time text = SaysOfTime files terminal words asked name source time text
-SaysBySeen files terminal words asked name unread time text = text ≡ []
-SaysBySeen files terminal words asked name gone time text = text ≡ []
 
 -- the file of the program of which a line is a value
 abbrev pub value_file : PlainWords → Option Text
 value_file asked = if not (asks_lines asked) || asks_columns asked then None else source_file asked.source
 
--- What is said of a call, where it is asked of this time; nothing of a call with words that are refused, or that ask for no lines of one program in a file.
-pub data SaysError (files : Files) (terminal : Bool) (words : List Text) (time : ℕ) (text : List ℕ) : Type 0 where
-  refused_words : words_asked words ≡ None → text ≡ [] → SaysError files terminal words time text
-  no_run : (asked : PlainWords) → words_asked words ≡ Some asked → value_file asked ≡ None → text ≡ [] → SaysError files terminal words time text
-  run : (asked : PlainWords) (name : Text) (seen : Held) → words_asked words ≡ Some asked → value_file asked ≡ Some name → IsSeen files name past_source seen
-      → SaysBySeen files terminal words asked name seen time text → SaysError files terminal words time text
+-- What is said of a call that read these bytes of its source, where it is asked of this time; nothing of a call with words that are refused, or that ask
+-- for no lines of one program in a file.
+pub data SaysError (files : Files) (terminal : Bool) (words : List Text) (source : List ℕ) (time : ℕ) (text : List ℕ) : Type 0 where
+  refused_words : words_asked words ≡ None → text ≡ [] → SaysError files terminal words source time text
+  no_run : (asked : PlainWords) → words_asked words ≡ Some asked → value_file asked ≡ None → text ≡ [] → SaysError files terminal words source time text
+  run : (asked : PlainWords) (name : Text) → words_asked words ≡ Some asked → value_file asked ≡ Some name
+      → SaysOfTime files terminal words asked name source time text → SaysError files terminal words source time text

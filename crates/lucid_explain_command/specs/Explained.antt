@@ -4,21 +4,27 @@ use Rattle.std.specs.Global.{Global}
 use Rattle.std.specs.declared.alloc.AllocError.{AllocError}
 use Rattle.clap.specs.Words.{Text}
 use Rattle.lucid_ports.specs.declared.fault.PortFault.{PortFault}
+use Rattle.lucid_ports.specs.declared.fault.PortFault.TheVariants.{Failed, NoMemory}
 use Rattle.lucid_ports.specs.Told.{Told}
 use Rattle.lucid_report.specs.declared.status.Status.{Status}
 use Rattle.lucid_report.specs.declared.status.Status.TheVariants as status
 use Rattle.lucid_top.specs.Call.{Call}
-use Rattle.lucid_top.specs.Clauses.{MeetsClauses}
+use Rattle.lucid_top.specs.Clauses.{MeetsOutcome}
+use Rattle.lucid_report.specs.declared.stop.Stop.{Stop}
+use Rattle.lucid_report.specs.declared.stop.Stop.TheVariants as stop
+use Rattle.lucid_report.specs.Status.{Outcome, status_of}
+use Rattle.lucid_report.specs.Lines.{outcome_line}
 use Rattle.lucid_report.specs.Telling.{WritesWhole, WritesLine}
 use Rattle.lucid_explain_report.specs.Files.{Files}
-use Rattle.lucid_explain_report.specs.Lines.{line_text}
+use Rattle.lucid_explain_report.specs.Stops.{stop_text}
 use Rattle.lucid_explain_report.specs.Said.{IsExplanation}
 use Rattle.lucid_explain_command.specs.Prompted.{IsPrompt}
+use Rattle.lucid_explain_command.specs.Keeping.{IsRead}
 use Rattle.lucid_explain_command.specs.Noting.{Seen, Notes}
 use Rattle.lucid_explain_command.specs.declared.behind.Behind.{Behind}
 use Rattle.lucid_explain_command.specs.declared.behind.Behind.TheVariants as behind
 use Rattle.lucid_explain_command.specs.Behind.{behind_of, has_count, SaysCount}
-use Rattle.lucid_explain_command.specs.Errors.{in_memory, SaysError}
+use Rattle.lucid_explain_command.specs.Errors.{SaysError}
 
 -- what is said where there is no memory for what would be said
 abbrev pub unsaid_text : List ℕ
@@ -42,29 +48,36 @@ abbrev pub Prompts : (files : Files) → (words : List Text) → (terminal : Boo
 Prompts files words false before after = after ≡ before
 Prompts files words true before after = WritesText (IsPrompt files words) before after
 
--- what comes of a write that failed so
+-- No memory is wanted to explain that the output can't be written, that an input is too large, or want of memory.
+abbrev pub wants_memory : Stop → Bool
+wants_memory stop.WriteFault = false
+wants_memory (stop.TooLarge stream name) = false
+wants_memory stop.NoMemory = false
+wants_memory _ = true
+
+-- What explains a stop is reported; where no memory is wanted, what is said of it alone.
+abbrev pub ReportsStop : (wants : Bool) → (files : Files) → (words : List Text) → (source : List ℕ) → Stop → (before after : Told) → Type 0
+ReportsStop true files words source why before after = WritesText (IsExplanation files words source why) before after
+ReportsStop false files words source why before after = Writes (stop_text why) before after
+
+-- Of a call that is done nothing is reported.
+abbrev pub ReportsCause : (files : Files) → (words : List Text) → (source : List ℕ) → Outcome → (before after : Told) → Type 0
+ReportsCause files words source (Ok done) before after = after ≡ before
+ReportsCause files words source (Err why) before after = ReportsStop (wants_memory why) files words source why before after
+
+-- what comes of a write that failed so, and the status of a call whose line that cut off
 abbrev pub failed : PortFault → Result (Unit {0}) PortFault
 failed fault = Err fault
 
--- What explains a call that ended so, where that wants no memory: what is said of its line by itself, where it is done, the output can't be written or an
--- input is too large; and what is said of want of memory, of which the line itself may be cut off.
-abbrev pub said_alone : Status → (line : List ℕ) → Option (List ℕ)
-said_alone status.Done line = Some (line_text line)
-said_alone status.WriteFault line = Some (line_text line)
-said_alone status.TooLarge line = Some (line_text line)
-said_alone status.NoMemory line = Some (line_text (codes "no memory\n"))
-said_alone _ line = None
+abbrev pub cut_status : PortFault → Outcome → Status
+cut_status Failed o = status_of o
+cut_status NoMemory o = status.NoMemory
 
--- That is reported, where there is such a text; else what explains the line by the words and the files.
-abbrev pub ReportsCause : Option (List ℕ) → (files : Files) → (words : List Text) → (line : List ℕ) → (before after : Told) → Type 0
-ReportsCause (Some said) files words line before after = Writes said before after
-ReportsCause None files words line before after = WritesText (IsExplanation files words line) before after
-
--- The line of a call that ended so is reported: cut off, where a write failed or there was no memory; or whole, and behind it what explains it.
-pub data Reports (files : Files) (words : List Text) (ended : Status) (line : List ℕ) (before after : Told) : Type 0 where
-  cut_off : (fault : PortFault) → WritesLine line (failed fault) before after → Reports files words ended line before after
-  whole : (between : Told) → WritesWhole line before between → ReportsCause (said_alone ended line) files words line between after
-      → Reports files words ended line before after
+-- The line of an outcome is reported: cut off, where a write failed or there was no memory; or whole, and behind it what explains the outcome.
+pub data Reports (files : Files) (words : List Text) (source : List ℕ) (o : Outcome) (s : Status) (before after : Told) : Type 0 where
+  cut_off : (fault : PortFault) → WritesLine (outcome_line o) (failed fault) before after → s ≡ cut_status fault o → Reports files words source o s before after
+  whole : (between : Told) → WritesWhole (outcome_line o) before between → ReportsCause files words source o between after → s ≡ status_of o
+      → Reports files words source o s before after
 
 -- How many lines a run writes is reported where no word gives it.
 abbrev pub ReportsCount : (words : List Text) → (is_given : Bool) → (before after : Told) → Type 0
@@ -72,22 +85,21 @@ ReportsCount words true before after = after ≡ before
 ReportsCount words false before after = WritesText (SaysCount words) before after
 
 -- Behind this it is reported where a value came from, or how many lines a run writes, or nothing.
-abbrev pub ReportsBehind : (files : Files) → (terminal : Bool) → (words : List Text) → Behind → (before after : Told) → Type 0
-ReportsBehind files terminal words (behind.Value time) before after = WritesText (SaysError files terminal words time) before after
-ReportsBehind files terminal words behind.Count before after = ReportsCount words (has_count words) before after
-ReportsBehind files terminal words behind.Nothing before after = after ≡ before
+abbrev pub ReportsBehind : (files : Files) → (terminal : Bool) → (words : List Text) → (source : List ℕ) → Behind → (before after : Told) → Type 0
+ReportsBehind files terminal words source (behind.Value time) before after = WritesText (SaysError files terminal words source time) before after
+ReportsBehind files terminal words source behind.Count before after = ReportsCount words (has_count words) before after
+ReportsBehind files terminal words source behind.Nothing before after = after ≡ before
 
--- The clauses of the command hold of the call and its status, with a report in memory; and what is reported is the line of that, with what explains
--- it behind it, and where the standard input is a terminal with what is read from there before it. Behind all stands where an `error` came from, or
--- how many lines a run writes, by what is noted of the bytes that were written.
-pub record IsExplained (files : Files) (terminal : Bool) (words : List Text) (c : Call) (seen : Seen) (report_before report_after : Told) (s : Status) : Type 0 where
-  pub line : List ℕ
-  pub faults : ℕ
-  pub late : ℕ
+-- The clauses hold of the call and of its outcome, whose line and status are told; and behind the line stands what explains that very outcome, by what
+-- the call read of its source. Where the standard input is a terminal, what is read from there stands before the line. Behind all stands where an
+-- `error` came from, or how many lines a run writes, by what is noted of the bytes that were written.
+pub record IsExplained (files : Files) (terminal : Bool) (words : List Text) (c : Call) (source : List ℕ) (seen : Seen) (report_before report_after : Told) (s : Status) : Type 0 where
+  pub outcome : Outcome
+  pub met : MeetsOutcome c outcome
+  pub read : IsRead c.after source
   pub between : Told
-  pub clauses : MeetsClauses c (in_memory [] 0 0) (in_memory line faults late) s
   pub prompts : Prompts files words terminal report_before between
   pub noted : Notes c.out_after.bytes seen
   pub halfway : Told
-  pub reports : Reports files words s line between halfway
-  pub more : ReportsBehind files terminal words (behind_of s seen) halfway report_after
+  pub reports : Reports files words source outcome s between halfway
+  pub more : ReportsBehind files terminal words source (behind_of s seen) halfway report_after

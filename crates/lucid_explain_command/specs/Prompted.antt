@@ -4,7 +4,8 @@ use Rattle.clap.specs.Words.{Text}
 use Rattle.lucid_words.specs.Asked.{PlainWords, words_asked}
 use Rattle.lucid_explain_run.specs.Prompts.{TellsPrompt}
 use Rattle.lucid_explain_report.specs.Files.{Files, Held, holds, unread, gone, IsSeen}
-use Rattle.lucid_explain_report.specs.Said.{past_source, names_given, is_none_of, source_file}
+use Rattle.lucid_explain_report.specs.Causes.{is_none_of}
+use Rattle.lucid_explain_report.specs.Said.{past_source, names_given, source_file}
 
 -- The words ask for a text of the program; or for columns.
 abbrev pub asks_text : PlainWords → Bool

@@ -1,16 +1,15 @@
 //! Files of a call's words, as they are read again.
-ghost use Rattle.std.specs.Prelude.{◌≡◌, ◌++◌, ◌∷◌, [], map, IfOk, OnOk, option_map};
-ghost use Rattle.lucid_words.specs.Asked.{plain_words};
+ghost use Rattle.std.specs.Prelude.{◌≡◌, ◌++◌, ◌∷◌, [], map, Some, None, if◌then◌else◌, IfOk, OnOk, option_map};
 ghost use Rattle.lucid_words.specs.Plain.{plain_given};
 ghost use Rattle.lucid_explain_report.specs.Files.{plain_again};
 ghost use Rattle.lucid_explain_report.specs.Said.{given_file};
-ghost use Rattle.lucid_explain_command.specs.Errors.{plain_file, plain_input, is_standard, bytes_seen, IsFound, labelled, as_named, Adds, AreReadAgain};
+ghost use Rattle.lucid_explain_command.specs.Errors.{plain_file, plain_input, is_standard, bytes_seen, IsFound, labelled, as_named, file_read, Adds, AreReadAgain};
 
 use lucid_explain_errors::Input;
 use lucid_explain_report::{Again, Outlook, PAST_CERTIFICATE};
 use lucid_ports::MemoryFile;
 use lucid_value::Name;
-use lucid_words::{Given, Words};
+use lucid_words::Given;
 use std::alloc::{AllocError, Global};
 
 // Whether the name is that of the standard input.
@@ -93,18 +92,47 @@ fn add_given<F: Outlook>(
     Ok(())
 }
 
-/// The files of the program and of its inputs that can be read again.
-pub(crate) fn files_again<F: Outlook>(
+// The source, where it wasn't read from the standard input.
+fn read_before(
     alloc: Global,
-    asked: &Words,
     name: &str,
-    outlook: &F,
+    source: &[u8],
+) -> Result<Option<Vec<u8>>, AllocError>
+    ensures { IfOk result (λ found. option_map (λ bytes. bytes.items) found ≡ (if is_standard name.now then None else Some source.now)) }
+{
+    if is_standard(name) {
+        Ok(None)
+    } else {
+        Ok(Some(Vec::from_slice(alloc, source)?))
+    }
+}
+
+// The file of the source alone.
+fn file_read(
+    alloc: Global,
+    name: &str,
+    source: &[u8],
 ) -> Result<Vec<MemoryFile>, AllocError>
-    ensures { IfOk result (λ those. AreReadAgain (F.files outlook.now) (as_named name.now ∷ map as_named (map given_file (plain_words asked.now).given)) (map plain_file those.items)) }
+    ensures { IfOk result (λ files. map plain_file files.items ≡ file_read name.now source.now) }
 {
     let mut files = Vec::new(alloc);
-    add_again(alloc, &mut files, name, outlook)?;
-    add_given(alloc, &mut files, &asked.given, outlook)?;
+    let found = read_before(alloc, name, source)?;
+    add_file(alloc, &mut files, name, found)?;
+    Ok(files)
+}
+
+/// The file of the source as it was read, and those of inputs that can be read again.
+pub(crate) fn files_again<F: Outlook>(
+    alloc: Global,
+    name: &str,
+    source: &[u8],
+    given: &[Given],
+    outlook: &F,
+) -> Result<Vec<MemoryFile>, AllocError>
+    ensures { IfOk result (λ those. Adds (F.files outlook.now) (map as_named (map given_file (map plain_given given.now))) (file_read name.now source.now) (map plain_file those.items)) }
+{
+    let mut files = file_read(alloc, name, source)?;
+    add_given(alloc, &mut files, given, outlook)?;
     Ok(files)
 }
 

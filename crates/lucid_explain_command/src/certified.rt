@@ -14,12 +14,13 @@ use lucid_top::lucid;
 use lucid_words::Words;
 use std::alloc::{AllocError, Global};
 
-/// A call of the program in the file of this name, and the time of which it is asked.
+/// A call of the program in the file of this name, what it read of that, and the time of which it is asked.
 #[derive(Clone, Copy)]
 pub(crate) struct Asked<'a> {
     pub(crate) words: &'a [String],
     pub(crate) asked: &'a Words,
     pub(crate) name: &'a str,
+    pub(crate) source: &'a [u8],
     pub(crate) time: u64,
 }
 
@@ -62,15 +63,15 @@ fn call_over(
     found_by(alloc, status, &out)
 }
 
-/// The certificate of the value at the time, by the files of the call's words as they are read again; none where none is made.
+/// The certificate of the value at the time, by the source as it was read and the files of inputs as they are read again; none where none is made.
 pub(crate) fn certificate_of<F: Outlook>(
     alloc: Global,
     call: &Asked<'_>,
     outlook: &F,
 ) -> Result<Option<Vec<u8>>, AllocError>
-    ensures { IfOk result (λ found. IsMade (F.files outlook.now) (map string_bytes call.now.words.now) (plain_words call.now.asked.now) call.now.name.now call.now.time (option_map (λ bytes. bytes.items) found)) }
+    ensures { IfOk result (λ found. IsMade (F.files outlook.now) (map string_bytes call.now.words.now) (plain_words call.now.asked.now) call.now.name.now call.now.source.now call.now.time (option_map (λ bytes. bytes.items) found)) }
 {
-    let files = files_again(alloc, call.asked, call.name, outlook)?;
+    let files = files_again(alloc, call.name, call.source, &call.asked.given, outlook)?;
     let words = why_words(alloc, call.time, call.words)?;
     call_over(alloc, &words, files)
 }

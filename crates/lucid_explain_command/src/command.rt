@@ -1,26 +1,26 @@
-//! The command, with what explains its report.
+//! The command, with what explains how it ended.
 ghost use Rattle.std.specs.Prelude.{◌≡◌, drop, map};
-ghost use Rattle.std.specs.Option.{option_copied};
 ghost use Rattle.std.specs.String.{string_bytes};
 ghost use Rattle.lucid_words.specs.Asked.{words_asked};
 ghost use Rattle.lucid_top.specs.Call.{call};
 ghost use Rattle.lucid_ports.specs.Told.{told};
 ghost use Rattle.lucid_report.specs.Telling.{WritesLine};
-ghost use Rattle.lucid_explain_report.specs.Said.{IsExplanation};
 ghost use Rattle.lucid_explain_command.specs.Prompted.{IsPrompt};
+ghost use Rattle.lucid_explain_command.specs.Keeping.{plain_kept, remembered};
 ghost use Rattle.lucid_explain_command.specs.Noting.{plain_noted};
 ghost use Rattle.lucid_explain_command.specs.Behind.{has_count, SaysCount};
 ghost use Rattle.lucid_explain_command.specs.Errors.{SaysError};
-ghost use Rattle.lucid_explain_command.specs.Explained.{unsaid_text, or_unsaid, Writes, WritesText, Prompts, said_alone, ReportsCause, Reports, ReportsCount, ReportsBehind, IsExplained};
+ghost use Rattle.lucid_explain_command.specs.Explained.{unsaid_text, or_unsaid, Writes, WritesText, Prompts, wants_memory, cut_status, ReportsStop, ReportsCause, Reports, ReportsCount, ReportsBehind, IsExplained};
 
 use crate::behind::{Behind, behind_of, has_count, text_of_count};
 use crate::errors::text_of_error;
 use crate::prompt::text_of_prompt;
+use crate::remembering::Remembering;
 use crate::watched::Watched;
-use lucid_explain_report::{Outlook, explain_report, line_text};
-use lucid_ports::{MemorySink, Places, PortFault, Sink, write_whole};
-use lucid_report::Status;
-use lucid_top::lucid;
+use lucid_explain_report::{Outlook, explain_stop, stop_text};
+use lucid_ports::{Places, PortFault, Sink, write_whole};
+use lucid_report::{Done, Status, Stop, write_outcome};
+use lucid_top::outcome_of;
 use std::alloc::{AllocError, Global};
 
 // Writes a line whole.
@@ -72,14 +72,20 @@ fn prompt_terminal<E: Sink, F: Outlook>(
     }
 }
 
-// What explains the line of a call that ended so, where no memory is wanted for it.
-fn said_alone(status: Status, line: &[u8]) -> Option<&'static [u8]>
-    ensures { option_copied result ≡ said_alone status line.now }
+// A call with these words, and what it read of its source.
+#[derive(Clone, Copy)]
+struct Called<'a> {
+    words: &'a [String],
+    source: &'a [u8],
+}
+
+// Whether memory is wanted to say what explains the stop.
+fn wants_memory(stop: &Stop) -> bool
+    ensures { result ≡ wants_memory stop.now }
 {
-    match status {
-        Status::Done | Status::WriteFault | Status::TooLarge => Some(line_text(line)),
-        Status::NoMemory => Some(line_text(b"no memory\n")),
-        _ => None,
+    match stop {
+        Stop::WriteFault | Stop::TooLarge { .. } | Stop::NoMemory => false,
+        _ => true,
     }
 }
 
@@ -90,58 +96,85 @@ fn report_alone<E: Sink>(report: &mut E, said: &[u8])
     let _ = write_line(report, said);
 }
 
-// How a call ended, and the line that it reported.
-#[derive(Clone, Copy)]
-struct Ended<'a> {
-    status: Status,
-    line: &'a [u8],
-}
-
-// Reports what explains the line, or that there was no memory for it.
-fn report_cause<E: Sink, F: Outlook>(
+// Reports what explains the stop, or that there was no memory for it.
+fn report_stop<E: Sink, F: Outlook>(
     alloc: Global,
-    words: &[String],
-    ended: &Ended<'_>,
+    called: &Called<'_>,
+    stop: &Stop,
     outlook: &F,
     report: &mut E,
 )
-    ensures { ReportsCause (said_alone ended.now.status ended.now.line.now) (F.files outlook.now) (map string_bytes words.now) ended.now.line.now
+    ensures { ReportsStop (wants_memory stop.now) (F.files outlook.now) (map string_bytes called.now.words.now) called.now.source.now stop.now
         (told E.written E.faults E.late report.old) (told E.written E.faults E.late report.new) }
 {
-    match said_alone(ended.status, ended.line) {
-        Some(said) => report_alone(report, said),
-        None => report_text(report, explain_report(alloc, words, ended.line, outlook)),
+    if wants_memory(stop) {
+        let text = explain_stop(alloc, called.words, called.source, stop, outlook);
+        report_text(report, text);
+    } else {
+        report_alone(report, stop_text(stop));
     }
 }
 
-// Reports the line of a call, and behind it what explains the line.
-fn report_call<E: Sink, F: Outlook>(
+// Reports what explains the outcome.
+fn report_cause<E: Sink, F: Outlook>(
     alloc: Global,
-    words: &[String],
-    ended: &Ended<'_>,
+    called: &Called<'_>,
+    outcome: &Result<Done, Stop>,
     outlook: &F,
     report: &mut E,
 )
-    ensures { Reports (F.files outlook.now) (map string_bytes words.now) ended.now.status ended.now.line.now
+    ensures { ReportsCause (F.files outlook.now) (map string_bytes called.now.words.now) called.now.source.now outcome.now
         (told E.written E.faults E.late report.old) (told E.written E.faults E.late report.new) }
 {
-    match write_line(report, ended.line) {
-        Ok(()) => report_cause(alloc, words, ended, outlook, report),
-        Err(_) => {}
+    match outcome {
+        Ok(_) => {}
+        Err(stop) => report_stop(alloc, called, stop, outlook, report),
+    }
+}
+
+// The status of a call whose line was cut off so.
+fn cut_status(fault: PortFault, outcome: &Result<Done, Stop>) -> Status
+    ensures { result ≡ cut_status fault outcome.now }
+{
+    match fault {
+        PortFault::Failed => Status::of(outcome),
+        PortFault::NoMemory => Status::NoMemory,
+    }
+}
+
+// Reports the line of the outcome, and behind it what explains the outcome.
+fn report_call<E: Sink, F: Outlook>(
+    alloc: Global,
+    called: &Called<'_>,
+    outcome: &Result<Done, Stop>,
+    outlook: &F,
+    report: &mut E,
+) -> Status
+    ensures { Reports (F.files outlook.now) (map string_bytes called.now.words.now) called.now.source.now outcome.now result
+        (told E.written E.faults E.late report.old) (told E.written E.faults E.late report.new) }
+{
+    match write_outcome(report, outcome) {
+        Ok(()) => {
+            report_cause(alloc, called, outcome, outlook, report);
+            Status::of(outcome)
+        }
+        Err(fault) => cut_status(fault, outcome),
     }
 }
 
 // Reports where the value at a time came from, or that there was no memory for it.
 fn report_time<E: Sink, F: Outlook>(
     alloc: Global,
-    words: &[String],
+    called: &Called<'_>,
     time: u64,
     outlook: &F,
     report: &mut E,
 )
-    ensures { WritesText (SaysError (F.files outlook.now) (F.terminal outlook.now) (map string_bytes words.now) time) (told E.written E.faults E.late report.old) (told E.written E.faults E.late report.new) }
+    ensures { WritesText (SaysError (F.files outlook.now) (F.terminal outlook.now) (map string_bytes called.now.words.now) called.now.source.now time)
+        (told E.written E.faults E.late report.old) (told E.written E.faults E.late report.new) }
 {
-    report_text(report, text_of_error(alloc, words, time, outlook));
+    let text = text_of_error(alloc, called.words, called.source, time, outlook);
+    report_text(report, text);
 }
 
 // Reports how many lines a run writes, or that there was no memory for it.
@@ -163,48 +196,48 @@ fn report_count<E: Sink>(alloc: Global, words: &[String], report: &mut E)
 // Reports that of which more is said.
 fn report_behind<E: Sink, F: Outlook>(
     alloc: Global,
-    words: &[String],
+    called: &Called<'_>,
     behind: Behind,
     outlook: &F,
     report: &mut E,
 )
-    ensures { ReportsBehind (F.files outlook.now) (F.terminal outlook.now) (map string_bytes words.now) behind (told E.written E.faults E.late report.old) (told E.written E.faults E.late report.new) }
+    ensures { ReportsBehind (F.files outlook.now) (F.terminal outlook.now) (map string_bytes called.now.words.now) called.now.source.now behind
+        (told E.written E.faults E.late report.old) (told E.written E.faults E.late report.new) }
 {
     match behind {
-        Behind::Value(time) => report_time(alloc, words, time, outlook, report),
-        Behind::Count => report_count(alloc, words, report),
+        Behind::Value(time) => report_time(alloc, called, time, outlook, report),
+        Behind::Count => report_count(alloc, called.words, report),
         Behind::Nothing => {}
     }
 }
 
-/// Does what the command does with these words, and answers its status. It reports the command's line, and behind it what explains the line,
-/// for which files may be read again. Where the standard input is a terminal, it says before the call which input is read from there. Behind a run
-/// that wrote `error`, or that is done and wrote no line, it says where the value came from, for which files are read again too; and
-/// behind 20 lines, where no count is given, that there may be more.
+/// Does what the command does with these words, and answers its status. It reports the command's line, and behind it what explains how the call ended,
+/// by what it read of its source. Where the standard input is a terminal, it says before the call which input is read from there, for which the
+/// program's file may be read once more. Behind a run that wrote `error`, or that is done and wrote no line, it says where the value came from, for
+/// which files of inputs are read again; and behind 20 lines, where no count is given, that there may be more.
 pub fn lucid_explain<P: Places, K: Sink, E: Sink, F: Outlook>(
     alloc: Global,
     words: &[String],
-    places: &mut P,
+    places: &mut Remembering<P>,
     outlook: &F,
     out: &mut Watched<K>,
     report: &mut E,
 ) -> Status
-    requires { (P.world places.old).reached ≡ 0 }
+    requires { (P.world places.old.inner).reached ≡ 0 }
     ensures { IsExplained (F.files outlook.now) (F.terminal outlook.now) (map string_bytes words.now)
-        (call (words_asked (map string_bytes words.now)) (P.world places.old) (P.world places.new) (told K.written K.faults K.late out.old.sink) (told K.written K.faults K.late out.new.sink))
-        (plain_noted out.new.noted)
+        (call (words_asked (map string_bytes words.now)) (remembered (plain_kept places.old.kept) places.old.faults places.old.late (P.world places.old.inner)) (remembered (plain_kept places.new.kept) places.new.faults places.new.late (P.world places.new.inner)) (told K.written K.faults K.late out.old.sink) (told K.written K.faults K.late out.new.sink))
+        (plain_kept places.new.kept).taken (plain_noted out.new.noted)
         (told E.written E.faults E.late report.old) (told E.written E.faults E.late report.new) result }
 {
-    let mut line = MemorySink::make(alloc, usize::MAX, Vec::new(alloc));
     prompt_terminal(alloc, words, outlook, report);
-    let status = lucid(alloc, words, places, out, &mut line);
-    let ended = Ended {
-        status,
-        line: line.written(),
+    let outcome = outcome_of(alloc, words, places, out);
+    let called = Called {
+        words,
+        source: places.read(),
     };
-    report_call(alloc, words, &ended, outlook, report);
+    let status = report_call(alloc, &called, &outcome, outlook, report);
     let behind = behind_of(status, out.noted());
-    report_behind(alloc, words, behind, outlook, report);
+    report_behind(alloc, &called, behind, outlook, report);
     status
 }
 
@@ -222,15 +255,15 @@ fn words_of(arguments: &[String]) -> &[String]
 pub fn lucid_explain_from_arguments<P: Places, K: Sink, E: Sink, F: Outlook>(
     alloc: Global,
     arguments: &[String],
-    places: &mut P,
+    places: &mut Remembering<P>,
     outlook: &F,
     out: &mut Watched<K>,
     report: &mut E,
 ) -> Status
-    requires { (P.world places.old).reached ≡ 0 }
+    requires { (P.world places.old.inner).reached ≡ 0 }
     ensures { IsExplained (F.files outlook.now) (F.terminal outlook.now) (map string_bytes (drop 1 arguments.now))
-        (call (words_asked (map string_bytes (drop 1 arguments.now))) (P.world places.old) (P.world places.new) (told K.written K.faults K.late out.old.sink) (told K.written K.faults K.late out.new.sink))
-        (plain_noted out.new.noted)
+        (call (words_asked (map string_bytes (drop 1 arguments.now))) (remembered (plain_kept places.old.kept) places.old.faults places.old.late (P.world places.old.inner)) (remembered (plain_kept places.new.kept) places.new.faults places.new.late (P.world places.new.inner)) (told K.written K.faults K.late out.old.sink) (told K.written K.faults K.late out.new.sink))
+        (plain_kept places.new.kept).taken (plain_noted out.new.noted)
         (told E.written E.faults E.late report.old) (told E.written E.faults E.late report.new) result }
 {
     lucid_explain(alloc, words_of(arguments), places, outlook, out, report)

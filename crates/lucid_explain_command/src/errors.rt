@@ -3,16 +3,15 @@ ghost use Rattle.std.specs.Prelude.{◌≡◌, map, Some, None, IfOk};
 ghost use Rattle.std.specs.Option.{option_copied};
 ghost use Rattle.std.specs.String.{string_bytes};
 ghost use Rattle.lucid_words.specs.Asked.{plain_words, words_asked};
-ghost use Rattle.lucid_explain_report.specs.Files.{plain_again};
 ghost use Rattle.lucid_explain_run.specs.Prompts.{TellsPrompt};
 ghost use Rattle.lucid_explain_report.specs.Said.{names_given};
-ghost use Rattle.lucid_explain_command.specs.Errors.{value_file, behind_free, SaysUnmade, SaysMade, SaysOfTime, SaysBySeen, SaysError};
+ghost use Rattle.lucid_explain_command.specs.Errors.{value_file, behind_free, SaysUnmade, SaysMade, SaysOfTime, SaysError};
 
 use crate::again::inputs_again;
 use crate::certified::{Asked, certificate_of};
 use crate::prompt::{asks_columns, asks_lines};
 use lucid_explain_errors::explain_error;
-use lucid_explain_report::{Again, Outlook, PAST_SOURCE, given_names};
+use lucid_explain_report::{Outlook, given_names};
 use lucid_explain_run::explain_prompt;
 use lucid_words::{Source, Words, WordsRefusal, read_words};
 use std::alloc::{AllocError, Global};
@@ -31,11 +30,11 @@ fn value_file(asked: &Words) -> Option<&str>
 }
 
 // What is said of the input without a file.
-fn text_of_free(alloc: Global, call: &Asked<'_>, source: &[u8]) -> Result<Vec<u8>, AllocError>
-    ensures { IfOk result (λ text. TellsPrompt source.now (names_given (plain_words call.now.asked.now).given) text.items) }
+fn text_of_free(alloc: Global, call: &Asked<'_>) -> Result<Vec<u8>, AllocError>
+    ensures { IfOk result (λ text. TellsPrompt call.now.source.now (names_given (plain_words call.now.asked.now).given) text.items) }
 {
     let given = given_names(alloc, &call.asked.given)?;
-    explain_prompt(alloc, source, &given)
+    explain_prompt(alloc, call.source, &given)
 }
 
 // What is said behind the input without a file.
@@ -56,15 +55,14 @@ fn behind_free(alloc: Global, said: &[u8]) -> Result<Vec<u8>, AllocError>
 fn text_unmade<F: Outlook>(
     alloc: Global,
     call: &Asked<'_>,
-    source: &[u8],
     outlook: &F,
 ) -> Result<Vec<u8>, AllocError>
-    ensures { IfOk result (λ text. SaysUnmade (F.terminal outlook.now) (plain_words call.now.asked.now) source.now text.items) }
+    ensures { IfOk result (λ text. SaysUnmade (F.terminal outlook.now) (plain_words call.now.asked.now) call.now.source.now text.items) }
 {
     if outlook.is_terminal() {
         return Ok(Vec::new(alloc));
     }
-    let said = text_of_free(alloc, call, source)?;
+    let said = text_of_free(alloc, call)?;
     behind_free(alloc, &said)
 }
 
@@ -72,44 +70,26 @@ fn text_unmade<F: Outlook>(
 fn text_made<F: Outlook>(
     alloc: Global,
     call: &Asked<'_>,
-    source: &[u8],
     certificate: &[u8],
     outlook: &F,
 ) -> Result<Vec<u8>, AllocError>
-    ensures { IfOk result (λ text. SaysMade (F.files outlook.now) (plain_words call.now.asked.now) call.now.name.now source.now certificate.now text.items) }
+    ensures { IfOk result (λ text. SaysMade (F.files outlook.now) (plain_words call.now.asked.now) call.now.name.now call.now.source.now certificate.now text.items) }
 {
     let inputs = inputs_again(alloc, &call.asked.given, outlook)?;
-    explain_error(alloc, call.name.as_bytes(), source, certificate, &inputs)
+    explain_error(alloc, call.name.as_bytes(), call.source, certificate, &inputs)
 }
 
-// What is said by the source.
+// What is said by the source that was read.
 fn text_of_source<F: Outlook>(
     alloc: Global,
     call: &Asked<'_>,
-    source: &[u8],
     outlook: &F,
 ) -> Result<Vec<u8>, AllocError>
-    ensures { IfOk result (λ text. SaysOfTime (F.files outlook.now) (F.terminal outlook.now) (map string_bytes call.now.words.now) (plain_words call.now.asked.now) call.now.name.now source.now call.now.time text.items) }
+    ensures { IfOk result (λ text. SaysOfTime (F.files outlook.now) (F.terminal outlook.now) (map string_bytes call.now.words.now) (plain_words call.now.asked.now) call.now.name.now call.now.source.now call.now.time text.items) }
 {
     match certificate_of(alloc, call, outlook)? {
-        Some(certificate) => text_made(alloc, call, source, &certificate, outlook),
-        None => text_unmade(alloc, call, source, outlook),
-    }
-}
-
-// What is said by what is seen of the program's file.
-fn text_by_seen<F: Outlook>(
-    alloc: Global,
-    call: &Asked<'_>,
-    again: &Again,
-    outlook: &F,
-) -> Result<Vec<u8>, AllocError>
-    ensures { IfOk result (λ text. SaysBySeen (F.files outlook.now) (F.terminal outlook.now) (map string_bytes call.now.words.now) (plain_words call.now.asked.now) call.now.name.now (plain_again again.now) call.now.time text.items) }
-{
-    match again {
-        Again::Bytes(source) => text_of_source(alloc, call, source, outlook),
-        Again::Unread => Ok(Vec::new(alloc)),
-        Again::Gone => Ok(Vec::new(alloc)),
+        Some(certificate) => text_made(alloc, call, &certificate, outlook),
+        None => text_unmade(alloc, call, outlook),
     }
 }
 
@@ -121,30 +101,37 @@ fn text_of_run<F: Outlook>(
 ) -> Result<Vec<u8>, AllocError>
     requires read { words_asked (map string_bytes call.now.words.now) ≡ Some (plain_words call.now.asked.now) }
     requires file { value_file (plain_words call.now.asked.now) ≡ Some call.now.name.now }
-    ensures { IfOk result (λ text. SaysError (F.files outlook.now) (F.terminal outlook.now) (map string_bytes call.now.words.now) call.now.time text.items) }
+    ensures { IfOk result (λ text. SaysError (F.files outlook.now) (F.terminal outlook.now) (map string_bytes call.now.words.now) call.now.source.now call.now.time text.items) }
 {
-    let again = outlook.reread(alloc, call.name, PAST_SOURCE)?;
-    text_by_seen(alloc, call, &again, outlook)
+    text_of_source(alloc, call, outlook)
+}
+
+// The value at a time of a call with these words, which read this source.
+#[derive(Clone, Copy)]
+struct Wanted<'a> {
+    words: &'a [String],
+    source: &'a [u8],
+    time: u64,
 }
 
 // What is said of a call with words that were read.
 fn text_of_call<F: Outlook>(
     alloc: Global,
-    words: &[String],
+    wanted: &Wanted<'_>,
     asked: &Words,
-    time: u64,
     outlook: &F,
 ) -> Result<Vec<u8>, AllocError>
-    requires { words_asked (map string_bytes words.now) ≡ Some (plain_words asked.now) }
-    ensures { IfOk result (λ text. SaysError (F.files outlook.now) (F.terminal outlook.now) (map string_bytes words.now) time text.items) }
+    requires { words_asked (map string_bytes wanted.now.words.now) ≡ Some (plain_words asked.now) }
+    ensures { IfOk result (λ text. SaysError (F.files outlook.now) (F.terminal outlook.now) (map string_bytes wanted.now.words.now) wanted.now.source.now wanted.now.time text.items) }
 {
     match value_file(asked) {
         Some(name) => {
             let call = Asked {
-                words,
+                words: wanted.words,
                 asked,
                 name,
-                time,
+                source: wanted.source,
+                time: wanted.time,
             };
             text_of_run(alloc, &call, outlook)
         }
@@ -152,17 +139,25 @@ fn text_of_call<F: Outlook>(
     }
 }
 
-/// What is said behind a call with these words, where it is asked of this time.
+/// What is said behind a call with these words, which read this source, where it is asked of this time.
 pub(crate) fn text_of_error<F: Outlook>(
     alloc: Global,
     words: &[String],
+    source: &[u8],
     time: u64,
     outlook: &F,
 ) -> Result<Vec<u8>, AllocError>
-    ensures { IfOk result (λ text. SaysError (F.files outlook.now) (F.terminal outlook.now) (map string_bytes words.now) time text.items) }
+    ensures { IfOk result (λ text. SaysError (F.files outlook.now) (F.terminal outlook.now) (map string_bytes words.now) source.now time text.items) }
 {
     match read_words(alloc, words) {
-        Ok(asked) => text_of_call(alloc, words, &asked, time, outlook),
+        Ok(asked) => {
+            let wanted = Wanted {
+                words,
+                source,
+                time,
+            };
+            text_of_call(alloc, &wanted, &asked, outlook)
+        }
         Err(WordsRefusal::Usage) => Ok(Vec::new(alloc)),
         Err(WordsRefusal::NoMemory) => Err(AllocError),
     }

@@ -1,4 +1,3 @@
 pub mod Common
 pub mod Told
 pub mod Telling
-pub mod Begins

@@ -1,11 +1,10 @@
--- What a source tells under other names of the same, and the first word that doesn't go with those before it.
+-- The first word that doesn't go with those before it.
 use Rattle.std.proofs.Common.{◌≡◌, ℕ, ◌+◌, ◌<◌, true, false, List, length, map, take, get_or, String, Global, min, ap, refl, sym, subst, ◌∙◌}
 use Rattle.std.specs.String.{string_bytes}
 use Rattle.std.specs.Prelude.{slice_get, Some}
 use Rattle.std.proofs.lemmas.List.{take-map, get_or-map, length-map}
 use Rattle.std.proofs.lemmas.Option.{slice_get_read}
-use Rattle.lucid_words.specs.Asked.{PlainWords}
-use Rattle.lucid_explain_report.specs.Said.{Tells, goes_on, GoOn, wrong_text, lacking_text, SaysWords, wrong, lacking}
+use Rattle.lucid_explain_report.specs.Said.{goes_on, GoOn, wrong_text, lacking_text, SaysWords, wrong, lacking}
 
 -- what is said of the first words is said of their texts
 gone_on : (words : List (String Global)) (n : ℕ) → ((j : ℕ) → j < n → goes_on (map string_bytes (take (j + 1) words)) ≡ true) → GoOn (map string_bytes words) n
@@ -28,9 +27,3 @@ pub lacking_word : (words : List (String Global)) (text : List ℕ)
 lacking_word words text go e =
     let P : ℕ → Type 0 = λ n. GoOn (map string_bytes words) (min n 100) in
     lacking (subst P (sym (length-map words string_bytes)) (gone_on words (min (length words) 100) go)) e
-
-pub same_source : (asked : PlainWords) (n m s r line text : List ℕ) → n ≡ m → s ≡ r → Tells asked n s line text → Tells asked m r line text
-same_source asked n m s r line text e f t =
-    let P : List ℕ → Type 0 = λ z. Tells asked z s line text in
-    let Q : List ℕ → Type 0 = λ z. Tells asked m z line text in
-    subst Q f (subst P e t)

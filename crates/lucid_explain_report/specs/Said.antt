@@ -1,13 +1,12 @@
 -- What is said behind the line that a call reported.
-use Rattle.std.specs.Prelude.{◌≡◌, ◌≢◌, ℕ, ◌+◌, ◌<◌, ◌≤◌, Bool, true, false, ◌&&◌, ◌||◌, not, nat_le, ◌==◌, List, [], ◌∷◌, ◌++◌, length, map, take, drop, min, codes, Option, Some, None, is_some, if◌then◌else◌}
+use Rattle.std.specs.Prelude.{◌≡◌, ◌≢◌, ℕ, ◌+◌, ◌<◌, Bool, true, false, ◌&&◌, ◌||◌, not, nat_eq, nat_le, ◌==◌, List, [], ◌∷◌, ◌++◌, length, map, take, min, codes, Option, Some, None, is_some, if◌then◌else◌}
 use Rattle.std.specs.Borrow.{Bor}
-use Rattle.std.specs.Char.{is_ascii_digit}
-use Rattle.std.specs.List.{flat_map, list_any, prefix_len, slice_get}
+use Rattle.std.specs.List.{flat_map, list_any, prefix_len, slice_get, starts_with}
 use Rattle.clap.specs.Words.{Text}
 use Rattle.lucid_value.specs.Plain.{same_bytes}
-use Rattle.lucid_texts.specs.Words.{number_of}
 use Rattle.lucid_words.specs.Plain.{PlainSource, file, made}
 use Rattle.lucid_words.specs.Asked.{PlainWords, words_asked}
+use Rattle.lucid_explain_source.specs.declared.fault.Fault.{Fault}
 use Rattle.lucid_explain_source.specs.Accepted.{IsAccepted}
 use Rattle.lucid_explain_places.specs.Shown.{place_text, shown_byte}
 use Rattle.lucid_explain_source.specs.Sources.{Explains}
@@ -15,12 +14,18 @@ use Rattle.lucid_explain_run.specs.Inputs.{TellsInputs, TellsFree}
 use Rattle.lucid_explain_source.specs.Columns.{TellsColumns}
 use Rattle.lucid_explain_run.specs.Depths.{TellsDepth}
 use Rattle.lucid_explain_run.specs.Judgments.{TellsJudgment}
-use Rattle.lucid_explain_report.specs.declared.sources.Cause.{Cause}
-use Rattle.lucid_explain_report.specs.declared.sources.Cause.TheVariants as cause
+use Rattle.lucid_report.specs.declared.stop.Stop.{Stop}
+use Rattle.lucid_explain_report.specs.declared.causes.Cause.{Cause}
+use Rattle.lucid_explain_report.specs.declared.causes.Cause.TheVariants as cause
 use Rattle.lucid_explain_report.specs.Files.{Files, Held, holds, unread, gone, is_unread, IsSeen}
-use Rattle.lucid_explain_report.specs.Lines.{begins, line_text}
+use Rattle.lucid_explain_report.specs.Stops.{stop_text}
+use Rattle.lucid_explain_report.specs.Causes.{cause_of}
 
--- one byte more than a source may have: so much of it is read again
+-- The text begins with the other one.
+unfoldable pub begins : (text other : List ℕ) → Bool
+begins text other = starts_with nat_eq text other
+
+-- one byte more than a source may have
 abbrev pub past_source : ℕ
 past_source = 1048577
 
@@ -30,66 +35,6 @@ given_name given = given.0
 
 abbrev pub names_given : List (Text × Text) → List Text
 names_given given = map given_name given
-
--- the number that stands in the line behind the text, in decimal digits
-abbrev pub digits_front : List ℕ → List ℕ
-digits_front rest = take (prefix_len is_ascii_digit rest) rest
-
-abbrev pub number_behind : (line text : List ℕ) → Option ℕ
-number_behind line text = if begins line text then number_of 18446744073709551615 (digits_front (drop (length text) line)) else None
-
--- there are none of them
-abbrev pub is_none_of : {X : Type 0} → List X → Bool
-is_none_of xs = length xs == 0
-
--- The place at which a source isn't judged, where it is one of the source.
-abbrev pub place_within : (source : List ℕ) → (at : ℕ) → Cause
-place_within source at = if nat_le at (length source) && nat_le (length source) 1048576 then cause.Place at else cause.Line
-
-abbrev pub place_cause : (source : List ℕ) → Option ℕ → Cause
-place_cause source (Some at) = place_within source at
-place_cause source None = cause.Line
-
-abbrev pub depth_cause : Option ℕ → Cause
-depth_cause (Some time) = cause.Depth time
-depth_cause None = cause.Line
-
--- What of a source explains the line: of columns, of which the source isn't what is run, and else.
-abbrev pub columns_cause : (line : List ℕ) → Cause
-columns_cause line = if begins line (codes "no column ") then cause.Columns else cause.Line
-
-abbrev pub plain_cause : (source line : List ℕ) → Cause
-plain_cause source line =
-    if begins line (codes "no input for two names") then cause.Inputs
-    else if begins line (codes "no input is named ") then cause.Free
-    else if begins line (codes "not judged at ") then place_cause source (number_behind line (codes "not judged at "))
-    else depth_cause (number_behind line (codes "too deep at time "))
-
-abbrev pub cause_of : (asked : PlainWords) → (source line : List ℕ) → Cause
-cause_of asked source line = if is_none_of asked.columns then plain_cause source line else columns_cause line
-
--- a place that is told is one of the source, which isn't too long
-abbrev pub IsWithin : (source : List ℕ) → Cause → Type 0
-IsWithin source (cause.Place at) = (at ≤ length source) × (length source ≤ 1048576)
-IsWithin source other = Unit {0}
-
--- The text says that of the source of this name: its inputs without a file; all its inputs; the names that may be columns; a place; what `--cycles` says
--- of it, and what that means for a time; or nothing. Before all inputs, behind a place and a depth, and alone, stands what explains the line by itself.
-abbrev pub TellsBy : Cause → (asked : PlainWords) → (name source line text : List ℕ) → Type 0
-TellsBy cause.Inputs asked name source line text = TellsInputs source (names_given asked.given) text
-TellsBy cause.Free asked name source line text = (said : List ℕ) × TellsFree source said × (text ≡ line_text line ++ said)
-TellsBy cause.Columns asked name source line text = TellsColumns source text
-TellsBy (cause.Place at) asked name source line text = text ≡ place_text name source at ++ line_text line
-TellsBy (cause.Depth time) asked name source line text = (said : List ℕ) × TellsDepth source asked.depth time said × (text ≡ said ++ line_text line)
-TellsBy cause.Line asked name source line text = text ≡ line_text line
-
--- What the source of this name says of a line, in a call with these words: why it is refused, and where, if it is refused with this line; else what of it
--- explains the line.
-pub data Tells (asked : PlainWords) (name source line text : List ℕ) : Type 0 where
-  refused : Explains name source line text → Tells asked name source line text
-  otherwise : (reported said : List ℕ) → Explains name source reported said → reported ≢ line
-      → TellsBy (cause_of asked source line) asked name source line text → Tells asked name source line text
-  accepted : IsAccepted source → TellsBy (cause_of asked source line) asked name source line text → Tells asked name source line text
 
 -- Bytes as they are shown, at most 160.
 abbrev pub shown_text : List ℕ → List ℕ
@@ -131,80 +76,62 @@ abbrev pub or_unknown : List ℕ → List ℕ
 or_unknown [] = unknown_text
 or_unknown (b ∷ bs) = b ∷ bs
 
--- of a source that doesn't come again
-abbrev pub gone_text : List ℕ
-gone_text = codes "The source is no regular file, so it can't be read again: its place isn't shown.\n"
+-- Those are told, or that there are none.
+abbrev pub SaysFiles : Files → PlainWords → (text : List ℕ) → Type 0
+SaysFiles files asked text = (told : List ℕ) × TellsFiles files (files_asked asked) [] told × (text ≡ or_unknown told)
 
-abbrev pub or_gone : List ℕ → List ℕ
-or_gone [] = gone_text
-or_gone (b ∷ bs) = b ∷ bs
-
--- texts that are lent
-abbrev pub texts_of : List (Bor Text) → List Text
-texts_of words = map (λ word. word.now) words
-
--- How the lines begin that are explained by the source.
-abbrev pub source_lines : List (List ℕ)
-source_lines =
-    codes "bad byte at " ∷ codes "open text at " ∷ codes "number too big at " ∷ codes "source too long" ∷ codes "syntax at " ∷ codes "too nested at "
-    ∷ codes "defined twice at " ∷ codes "no such function at " ∷ codes "not a function at " ∷ codes "function without arguments at "
-    ∷ codes "wrong number of arguments at " ∷ codes "no column " ∷ codes "no input for two names" ∷ codes "no input is named " ∷ codes "not judged at " ∷ codes "too deep at " ∷ []
-
-abbrev pub is_of_source : (line : List ℕ) → Bool
-is_of_source line = list_any (begins line) source_lines
+-- one byte more than a certificate may have
+abbrev pub past_certificate : ℕ
+past_certificate = 268435457
 
 -- the file of a source
 abbrev pub source_file : PlainSource → Option Text
 source_file (file name) = Some name
 source_file (made number) = None
 
--- the file whose source explains the line, if one does; what is no source, as a table, explains none
-abbrev pub line_file : PlainWords → (line : List ℕ) → Option Text
-line_file asked line = if asked.from_flat || not (is_of_source line) then None else source_file asked.source
+-- its name; a made program has none
+abbrev pub name_in : PlainSource → List ℕ
+name_in (file name) = name
+name_in (made number) = []
 
--- The text says of the line what the file of this name says, of which this is seen: its source, or that this doesn't come again; else the line is explained
--- by itself.
-abbrev pub SaysBy : (asked : PlainWords) → (name : Text) → (seen : Held) → (line text : List ℕ) → Type 0
-SaysBy asked name (holds source) line text = Tells asked name source line text
-SaysBy asked name unread line text = text ≡ line_text line
-SaysBy asked name gone line text = text ≡ or_gone (line_text line)
+-- What a source of this name says of a fault for which a call was refused: why, and where, if that is its fault; else what is said of the refusal alone.
+pub data TellsFault (fault : Fault) (name source alone text : List ℕ) : Type 0 where
+  its_own : Explains name source fault text → TellsFault fault name source alone text
+  another : (found : Fault) (said : List ℕ) → Explains name source found said → found ≢ fault → text ≡ alone → TellsFault fault name source alone text
+  accepted : IsAccepted source → text ≡ alone → TellsFault fault name source alone text
 
--- one byte more than a certificate may have
-abbrev pub past_certificate : ℕ
-past_certificate = 268435457
+-- the place at which a source isn't judged, where it is one of the source
+abbrev pub place_said : (name source : List ℕ) → (at : ℕ) → List ℕ
+place_said name source at = if nat_le at (length source) && nat_le (length source) 1048576 then place_text name source at else []
 
--- the number of a judgment, where the words ask for a check and the line tells one
-abbrev pub judgment_number : PlainWords → (line : List ℕ) → Option ℕ
-judgment_number asked line = if is_none_of asked.check then None else number_behind line (codes "judgment ")
+-- The text says which piece of the source has the node of a judgment, where the certificate is seen; and behind that, and else, what is said alone.
+abbrev pub TellsPiece : (name source : List ℕ) → (certificate : Held) → (number : ℕ) → (alone text : List ℕ) → Type 0
+TellsPiece name source (holds certificate) number alone text = (said : List ℕ) × TellsJudgment name source certificate number said × (text ≡ said ++ alone)
+TellsPiece name source unread number alone text = text ≡ alone
+TellsPiece name source gone number alone text = text ≡ alone
 
--- The text says which piece of the source has the node of a judgment, where the source and the certificate are seen; and behind that, and else, what
--- explains the line by itself.
-abbrev pub SaysOf : (name : Text) → (source certificate : Held) → (number : ℕ) → (line text : List ℕ) → Type 0
-SaysOf name (holds source) (holds certificate) number line text = (said : List ℕ) × TellsJudgment name source certificate number said × (text ≡ said ++ line_text line)
-SaysOf name (holds source) unread number line text = text ≡ line_text line
-SaysOf name (holds source) gone number line text = text ≡ line_text line
-SaysOf name unread certificate number line text = text ≡ line_text line
-SaysOf name gone certificate number line text = text ≡ line_text line
+-- The text says that of the source of this name: its fault; its inputs without a file; all its inputs; the names that may be columns; a place; what
+-- `--cycles` says of it, and what that means for a time; which piece has a judgment. Or it tells the files that can't be read now; or nothing more. Before
+-- all inputs, behind a place, a depth and a judgment, and alone, stands what is said of the stop alone.
+abbrev pub SaysBy : Cause → Files → PlainWords → (name source : List ℕ) → Stop → (text : List ℕ) → Type 0
+SaysBy (cause.Source fault) files asked name source why text = TellsFault fault name source (stop_text why) text
+SaysBy cause.Inputs files asked name source why text = TellsInputs source (names_given asked.given) text
+SaysBy cause.Free files asked name source why text = (said : List ℕ) × TellsFree source said × (text ≡ stop_text why ++ said)
+SaysBy cause.Columns files asked name source why text = TellsColumns source text
+SaysBy (cause.Place at) files asked name source why text = text ≡ place_said name source at ++ stop_text why
+SaysBy (cause.Depth time) files asked name source why text = (said : List ℕ) × TellsDepth source asked.depth time said × (text ≡ said ++ stop_text why)
+SaysBy (cause.Judgment number) files asked name source why text =
+    (seen : Held) × IsSeen files asked.check past_certificate seen × TellsPiece name source seen number (stop_text why) text
+SaysBy cause.Files files asked name source why text = SaysFiles files asked text
+SaysBy cause.Alone files asked name source why text = text ≡ stop_text why
 
--- the file of the source whose certificate the line tells of
-abbrev pub file_if : Option ℕ → PlainSource → Option Text
-file_if None source = None
-file_if (Some number) source = source_file source
+-- What is said of a call with these words that was stopped so, and read these bytes of its source.
+abbrev pub Says : Files → PlainWords → (source : List ℕ) → Stop → (text : List ℕ) → Type 0
+Says files asked source why text = SaysBy (cause_of asked why) files asked (name_in asked.source) source why text
 
-abbrev pub checked_file : PlainWords → (line : List ℕ) → Option Text
-checked_file asked line = file_if (judgment_number asked line) asked.source
-
--- What is said of a call with these words that reported the line: of a read fault the files that can't be read, or that none is such; else what a file
--- says of the line, or the source and the certificate say of it, or what explains it by itself.
-pub data Says (files : Files) (asked : PlainWords) (line text : List ℕ) : Type 0 where
-  of_fault : (told : List ℕ) → begins line (codes "read fault") ≡ true → TellsFiles files (files_asked asked) [] told → text ≡ or_unknown told
-      → Says files asked line text
-  of_line : begins line (codes "read fault") ≡ false → line_file asked line ≡ None → checked_file asked line ≡ None → text ≡ line_text line → Says files asked line text
-  of_judgment : (name : Text) (number : ℕ) (seen certificate : Held) → begins line (codes "read fault") ≡ false → line_file asked line ≡ None
-      → checked_file asked line ≡ Some name → judgment_number asked line ≡ Some number → IsSeen files name past_source seen
-      → IsSeen files asked.check past_certificate certificate → SaysOf name seen certificate number line text → Says files asked line text
-  of_file : (name : Text) (seen : Held) → begins line (codes "read fault") ≡ false → line_file asked line ≡ Some name → IsSeen files name past_source seen
-      → SaysBy asked name seen line text → Says files asked line text
+-- texts that are lent
+abbrev pub texts_of : List (Bor Text) → List Text
+texts_of words = map (λ word. word.now) words
 
 -- what is tried behind words, to see whether they are the first of some that are right
 abbrev pub tried : List (List Text)
@@ -265,7 +192,7 @@ pub data SaysWords (words : List Text) (text : List ℕ) : Type 0 where
       → goes_on (take (number + 1) words) ≡ false → text ≡ wrong_text word → SaysWords words text
   lacking : GoOn words (min (length words) 100) → text ≡ lacking_text → SaysWords words text
 
--- What is said behind the line.
-pub data IsExplanation (files : Files) (words : List Text) (line text : List ℕ) : Type 0 where
-  refused_words : words_asked words ≡ None → SaysWords words text → IsExplanation files words line text
-  asked_words : (asked : PlainWords) → words_asked words ≡ Some asked → Says files asked line text → IsExplanation files words line text
+-- What is said behind the line of a call that was stopped so, and read these bytes of its source.
+pub data IsExplanation (files : Files) (words : List Text) (source : List ℕ) (why : Stop) (text : List ℕ) : Type 0 where
+  refused_words : words_asked words ≡ None → SaysWords words text → IsExplanation files words source why text
+  asked_words : (asked : PlainWords) → words_asked words ≡ Some asked → Says files asked source why text → IsExplanation files words source why text

@@ -1,186 +1,151 @@
-//! What explains the line that the command reported.
-ghost use Rattle.std.specs.Prelude.{◌≡◌, false, ◌||◌, not, map, codes, Some, None, IfOk};
-ghost use Rattle.std.specs.String.{string_bytes};
+//! What explains why a call was stopped.
+ghost use Rattle.std.specs.Prelude.{◌≡◌};
 ghost use Rattle.lucid_words.specs.Asked.{plain_words};
-ghost use Rattle.lucid_explain_report.specs.Files.{plain_again};
-ghost use Rattle.lucid_explain_report.specs.Lines.{begins, line_text};
-ghost use Rattle.lucid_explain_report.specs.Said.{or_gone, is_of_source, line_file, judgment_number, checked_file, SaysBy, Says, IsExplanation};
+ghost use Rattle.lucid_words.specs.Plain.{plain_source};
+ghost use Rattle.lucid_explain_report.specs.Causes.{fault_of, program_cause, refusal_cause, source_cause, other_cause, of_columns, is_file, reads_source, file_cause, cause_of};
 
-use crate::faults::text_of_faults;
-use crate::judgments::{Judged, judgment_number, text_of_judgment};
-use crate::lines::{begins, is_of_source, line_text};
-use crate::outlook::{Again, Outlook};
-use crate::sources::{Reported, text_of_source};
-use crate::usage::text_of_words;
-use lucid_words::{Source, Words, WordsRefusal, read_words};
-use std::alloc::{AllocError, Global};
+use lucid_explain_source::Fault;
+use lucid_report::{Refusal, Stop};
+use lucid_words::{Source, Words};
 
-/// One byte more than a source may have: so much of it is read again.
-pub const PAST_SOURCE: usize = 1_048_577;
-
-// What is said of a line by itself, or else that its source doesn't come again.
-fn text_of_gone(alloc: Global, line: &[u8]) -> Result<Vec<u8>, AllocError>
-    ensures { IfOk result (λ text. text.items ≡ or_gone (line_text line.now)) }
-{
-    let said = line_text(line);
-    if said.is_empty() {
-        return Vec::from_slice(
-            alloc,
-            b"The source is no regular file, so it can't be read again: its place isn't shown.\n",
-        );
-    }
-    Vec::from_slice(alloc, said)
+/// What explains why a call was stopped.
+#[derive(Clone, Copy)]
+pub(crate) enum Cause {
+    /// The fault of its source.
+    Source(Fault),
+    /// The inputs of its program without a file.
+    Inputs,
+    /// All its inputs.
+    Free,
+    /// The names that may be columns.
+    Columns,
+    /// A place at which the source isn't judged.
+    Place(u32),
+    /// What `--cycles` says of the source, for a time.
+    Depth(u64),
+    /// The judgment of this number, and the piece of the source that it is of.
+    Judgment(u64),
+    /// The files that can't be read.
+    Files,
+    /// Nothing more than the reason.
+    Alone,
 }
 
-// What is said of the line by what is seen of the file of this name.
-fn text_by_file(
-    alloc: Global,
-    asked: &Words,
-    name: &str,
-    line: &[u8],
-    again: &Again,
-) -> Result<Vec<u8>, AllocError>
-    ensures { IfOk result (λ text. SaysBy (plain_words asked.now) name.now (plain_again again.now) line.now text.items) }
+// The fault of a source for which a call is refused.
+fn fault_of(refusal: &Refusal) -> Option<Fault>
+    ensures { result ≡ fault_of refusal.now }
 {
-    match again {
-        Again::Bytes(source) => {
-            let reported = Reported {
-                asked,
-                name: name.as_bytes(),
-                source,
-                line,
-            };
-            text_of_source(alloc, &reported)
-        }
-        Again::Unread => Vec::from_slice(alloc, line_text(line)),
-        Again::Gone => text_of_gone(alloc, line),
-    }
-}
-
-// What is said of a line of which the source in the file of this name says more.
-fn text_of_file<F: Outlook>(
-    alloc: Global,
-    asked: &Words,
-    name: &str,
-    line: &[u8],
-    outlook: &F,
-) -> Result<Vec<u8>, AllocError>
-    requires no_fault { begins line.now (codes "read fault") ≡ false }
-    requires file { line_file (plain_words asked.now) line.now ≡ Some name.now }
-    ensures { IfOk result (λ text. Says (F.files outlook.now) (plain_words asked.now) line.now text.items) }
-{
-    let again = outlook.reread(alloc, name, PAST_SOURCE)?;
-    text_by_file(alloc, asked, name, line, &again)
-}
-
-// What is said of a line that no source explains.
-fn text_of_itself<F: Outlook>(
-    alloc: Global,
-    asked: &Words,
-    line: &[u8],
-    outlook: &F,
-) -> Result<Vec<u8>, AllocError>
-    requires no_fault { begins line.now (codes "read fault") ≡ false }
-    requires no_file { line_file (plain_words asked.now) line.now ≡ None }
-    requires no_judgment { checked_file (plain_words asked.now) line.now ≡ None }
-    ensures { IfOk result (λ text. Says (F.files outlook.now) (plain_words asked.now) line.now text.items) }
-{
-    Vec::from_slice(alloc, line_text(line))
-}
-
-// What is said of a line that tells a judgment of this number, which no source explains alone.
-fn text_of_number<F: Outlook>(
-    alloc: Global,
-    asked: &Words,
-    number: u64,
-    line: &[u8],
-    outlook: &F,
-) -> Result<Vec<u8>, AllocError>
-    requires no_fault { begins line.now (codes "read fault") ≡ false }
-    requires no_file { line_file (plain_words asked.now) line.now ≡ None }
-    requires number { judgment_number (plain_words asked.now) line.now ≡ Some number }
-    ensures { IfOk result (λ text. Says (F.files outlook.now) (plain_words asked.now) line.now text.items) }
-{
-    match &asked.source {
-        Source::File(name) => {
-            let judged = Judged { name, number, line };
-            text_of_judgment(alloc, asked, &judged, outlook)
-        }
-        Source::Made(_) => text_of_itself(alloc, asked, line, outlook),
+    match refusal {
+        Refusal::TooLong => Some(Fault::TooLong),
+        Refusal::BadByte { at } => Some(Fault::BadByte { at: *at }),
+        Refusal::OpenText { at } => Some(Fault::OpenText { at: *at }),
+        Refusal::BigNumber { at } => Some(Fault::BigNumber { at: *at }),
+        Refusal::Syntax { at } => Some(Fault::Syntax { at: *at }),
+        Refusal::TooNested { at } => Some(Fault::TooNested { at: *at }),
+        Refusal::Twice { at } => Some(Fault::Twice { at: *at }),
+        Refusal::NoFunction { at } => Some(Fault::NoFunction { at: *at }),
+        Refusal::NotFunction { at } => Some(Fault::NotFunction { at: *at }),
+        Refusal::IsFunction { at } => Some(Fault::IsFunction { at: *at }),
+        Refusal::Arity { at, wanted, given } => Some(Fault::Arity {
+            at: *at,
+            wanted: *wanted,
+            given: *given,
+        }),
+        _ => None,
     }
 }
 
-// What is said of a line that no source explains alone.
-fn text_beside_source<F: Outlook>(
-    alloc: Global,
-    asked: &Words,
-    line: &[u8],
-    outlook: &F,
-) -> Result<Vec<u8>, AllocError>
-    requires no_fault { begins line.now (codes "read fault") ≡ false }
-    requires no_file { line_file (plain_words asked.now) line.now ≡ None }
-    ensures { IfOk result (λ text. Says (F.files outlook.now) (plain_words asked.now) line.now text.items) }
+// What explains a refusal of a call whose source is accepted.
+fn program_cause(refusal: &Refusal) -> Cause
+    ensures { result ≡ program_cause refusal.now }
 {
-    match judgment_number(asked, line) {
-        Some(number) => text_of_number(alloc, asked, number, line, outlook),
-        None => text_of_itself(alloc, asked, line, outlook),
+    match refusal {
+        Refusal::NoColumn { .. } => Cause::Columns,
+        Refusal::NotJudged { at } => Cause::Place(*at),
+        Refusal::NoInput => Cause::Inputs,
+        Refusal::NotFree { .. } => Cause::Free,
+        _ => Cause::Alone,
     }
 }
 
-// Whether no source explains the line alone: it tells of something else, or what was read is no source.
-fn is_of_itself(asked: &Words, line: &[u8]) -> bool
-    ensures { result ≡ ((plain_words asked.now).from_flat || not (is_of_source line.now)) }
+// What explains a refusal.
+fn refusal_cause(refusal: &Refusal) -> Cause
+    ensures { result ≡ refusal_cause refusal.now }
 {
-    asked.from_flat || !is_of_source(line)
-}
-
-// What is said of a line that is explained by itself or by the source.
-fn text_of_line<F: Outlook>(
-    alloc: Global,
-    asked: &Words,
-    line: &[u8],
-    outlook: &F,
-) -> Result<Vec<u8>, AllocError>
-    requires { begins line.now (codes "read fault") ≡ false }
-    ensures { IfOk result (λ text. Says (F.files outlook.now) (plain_words asked.now) line.now text.items) }
-{
-    if is_of_itself(asked, line) {
-        return text_beside_source(alloc, asked, line, outlook);
-    }
-    match &asked.source {
-        Source::File(name) => text_of_file(alloc, asked, name, line, outlook),
-        Source::Made(_) => text_beside_source(alloc, asked, line, outlook),
+    match fault_of(refusal) {
+        Some(fault) => Cause::Source(fault),
+        None => program_cause(refusal),
     }
 }
 
-// What is said of a call with words that were read.
-fn text_of_call<F: Outlook>(
-    alloc: Global,
-    asked: &Words,
-    line: &[u8],
-    outlook: &F,
-) -> Result<Vec<u8>, AllocError>
-    ensures { IfOk result (λ text. Says (F.files outlook.now) (plain_words asked.now) line.now text.items) }
+// What explains a stop of a call whose source is that of a program.
+fn source_cause(stop: &Stop) -> Cause
+    ensures { result ≡ source_cause stop.now }
 {
-    if begins(line, b"read fault") {
-        text_of_faults(alloc, asked, line, outlook)
+    match stop {
+        Stop::Refused(refusal) => refusal_cause(refusal),
+        Stop::ReadFault => Cause::Files,
+        Stop::TooDeep { time, .. } => Cause::Depth(*time),
+        Stop::Wrong { judgment } => Cause::Judgment(*judgment),
+        Stop::WriteFault | Stop::TooLarge { .. } | Stop::NoMemory => Cause::Alone,
+    }
+}
+
+// What explains a stop of another call.
+fn other_cause(stop: &Stop) -> Cause
+    ensures { result ≡ other_cause stop.now }
+{
+    match stop {
+        Stop::ReadFault => Cause::Files,
+        _ => Cause::Alone,
+    }
+}
+
+// What of it explains a call for columns, which doesn't run its source.
+fn of_columns(cause: Cause) -> Cause
+    ensures { result ≡ of_columns cause }
+{
+    match cause {
+        Cause::Inputs | Cause::Free | Cause::Depth(_) => Cause::Alone,
+        other => other,
+    }
+}
+
+// Whether the source is that in a file.
+fn is_file(source: &Source) -> bool
+    ensures { result ≡ is_file (plain_source source.now) }
+{
+    match source {
+        Source::File(_) => true,
+        Source::Made(_) => false,
+    }
+}
+
+// Whether the words name the file of a program in source form.
+fn reads_source(asked: &Words) -> bool
+    ensures { result ≡ reads_source (plain_words asked.now) }
+{
+    is_file(&asked.source) && !asked.from_flat
+}
+
+// What explains a stop of a call for a program, or for columns of it.
+fn file_cause(asked: &Words, stop: &Stop) -> Cause
+    ensures { result ≡ file_cause (plain_words asked.now) stop.now }
+{
+    if asked.columns.is_empty() {
+        source_cause(stop)
     } else {
-        text_of_line(alloc, asked, line, outlook)
+        of_columns(source_cause(stop))
     }
 }
 
-/// What explains the line that the command reported with these words. Files are read again.
-pub fn explain_report<F: Outlook>(
-    alloc: Global,
-    words: &[String],
-    line: &[u8],
-    outlook: &F,
-) -> Result<Vec<u8>, AllocError>
-    ensures { IfOk result (λ text. IsExplanation (F.files outlook.now) (map string_bytes words.now) line.now text.items) }
+/// What explains why a call with these words was stopped.
+pub(crate) fn cause_of(asked: &Words, stop: &Stop) -> Cause
+    ensures { result ≡ cause_of (plain_words asked.now) stop.now }
 {
-    match read_words(alloc, words) {
-        Ok(asked) => text_of_call(alloc, &asked, line, outlook),
-        Err(WordsRefusal::Usage) => text_of_words(alloc, words),
-        Err(WordsRefusal::NoMemory) => Err(AllocError),
+    if reads_source(asked) {
+        file_cause(asked, stop)
+    } else {
+        other_cause(stop)
     }
 }

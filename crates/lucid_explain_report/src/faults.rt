@@ -1,11 +1,10 @@
 //! What is said of a read fault.
-ghost use Rattle.std.specs.Prelude.{◌≡◌, true, ◌++◌, map, [], ◌∷◌, codes, IfOk, OnOk};
+ghost use Rattle.std.specs.Prelude.{◌≡◌, ◌++◌, map, [], ◌∷◌, IfOk, OnOk};
 ghost use Rattle.std.specs.String.{string_bytes};
 ghost use Rattle.lucid_words.specs.Asked.{plain_words};
 ghost use Rattle.lucid_words.specs.Plain.{plain_given, plain_source};
 ghost use Rattle.lucid_explain_report.specs.Files.{Held, IsSeen, is_unread, plain_again};
-ghost use Rattle.lucid_explain_report.specs.Lines.{begins};
-ghost use Rattle.lucid_explain_report.specs.Said.{shown_text, source_files, certificate_files, given_file, files_asked, fault_text, TellsFiles, unknown_text, or_unknown, Says};
+ghost use Rattle.lucid_explain_report.specs.Said.{shown_text, source_files, certificate_files, given_file, files_asked, fault_text, TellsFiles, unknown_text, or_unknown, SaysFiles};
 
 use crate::outlook::{Again, Outlook};
 use lucid_explain_places::put_shown;
@@ -148,11 +147,9 @@ fn or_unknown(alloc: Global, told: Vec<u8>) -> Result<Vec<u8>, AllocError>
 pub(crate) fn text_of_faults<F: Outlook>(
     alloc: Global,
     asked: &Words,
-    line: &[u8],
     outlook: &F,
 ) -> Result<Vec<u8>, AllocError>
-    requires { begins line.now (codes "read fault") ≡ true }
-    ensures { IfOk result (λ text. Says (F.files outlook.now) (plain_words asked.now) line.now text.items) }
+    ensures { IfOk result (λ text. SaysFiles (F.files outlook.now) (plain_words asked.now) text.items) }
 {
     let told = text_of_files(alloc, asked, outlook)?;
     or_unknown(alloc, told)

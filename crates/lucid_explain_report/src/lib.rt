@@ -1,16 +1,17 @@
-//! What explains the line that a call of the command reports, by its words and by the files that they name as these are read again.
+//! What explains why a call of the command was stopped: by its words, by the bytes that it read of its source, and by the reason.
 #![tactic(auto)]
 
-pub use crate::causes::{PAST_SOURCE, explain_report};
+pub use crate::explaining::explain_stop;
 pub use crate::judgments::PAST_CERTIFICATE;
-pub use crate::lines::line_text;
-pub use crate::outlook::{Again, Outlook, RealOutlook};
+pub use crate::outlook::{Again, Outlook, PAST_SOURCE, RealOutlook};
 pub use crate::sources::given_names;
+pub use crate::stops::stop_text;
 
 mod causes;
+mod explaining;
 mod faults;
 mod judgments;
-mod lines;
 mod outlook;
 mod sources;
+mod stops;
 mod usage;

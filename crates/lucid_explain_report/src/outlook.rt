@@ -7,6 +7,9 @@ use std::alloc::{AllocError, Global};
 use std::fs;
 use std::io::IsTerminal;
 
+/// One byte more than a source may have: so much of it is read again.
+pub const PAST_SOURCE: usize = 1_048_577;
+
 /// What comes of reading a file again.
 #[derive(Drop)]
 pub enum Again {

@@ -1,6 +1,6 @@
 pub mod Characters
 pub mod Advice
-pub mod Reported
+pub mod Faults
 pub mod Sources
 pub mod Scopes
 pub mod Definitions

@@ -1,5 +1,5 @@
 //! What holds of all sources. The functions do nothing: each one's contract is the law.
-ghost use Rattle.lucid_explain_source.specs.Laws.{AcceptedAreNotRefused, ExplainedAreRefused, OneLineIsExplained, TwiceIsTold};
+ghost use Rattle.lucid_explain_source.specs.Laws.{AcceptedAreNotRefused, ExplainedAreRefused, OneFaultIsExplained, TwiceIsTold};
 
 use lucid_parse::laws::{
     spelled_trees_are_well_made, terminals_are_unique, tokens_have_one_refusal,
@@ -10,11 +10,11 @@ use lucid_scan::laws::{
 };
 use lucid_scope::laws::least_fault_is_unique;
 
-/// No source is both accepted and refused; what explains a source is said of one that is refused, and behind one line alone.
+/// No source is both accepted and refused; what explains a source is said of one that is refused, and of one fault alone.
 pub fn one_verdict()
     ensures accepted { AcceptedAreNotRefused }
     ensures refused { ExplainedAreRefused }
-    ensures one_line { OneLineIsExplained }
+    ensures one_fault { OneFaultIsExplained }
 {
     tokens_are_unique();
     tokens_are_not_refused();

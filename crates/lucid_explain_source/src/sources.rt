@@ -9,8 +9,8 @@ ghost use Rattle.lucid_explain_source.specs.Accepted.{IsSpelt, IsAccepted};
 ghost use Rattle.lucid_explain_source.specs.Sources.{nested_advice, depth_text, Explains};
 
 use crate::advice::put_scan;
+use crate::fault::Fault;
 use crate::names::text_of_names;
-use crate::reported::{put_line_at, put_names_line, put_scan_line};
 use lucid_explain_places::{explain_syntax, put_place};
 use lucid_parse::{ParseRefusal, parse};
 use lucid_scan::laws::tokens_are_in_order;
@@ -19,11 +19,10 @@ use lucid_scope::{ScopeRefusal, resolve};
 use lucid_tree::Tree;
 use std::alloc::{AllocError, Global};
 
-/// What is reported of a source that is refused, and what is said of it.
+/// Why a source is refused, and what is said of that.
 #[derive(Drop)]
 pub struct Explanation {
-    /// The line of the report, with its end.
-    pub line: Vec<u8>,
+    pub fault: Fault,
     pub text: Vec<u8>,
 }
 
@@ -43,13 +42,14 @@ fn said_of_scan(
 ) -> Result<Explanation, AllocError>
     requires known { refusal ≢ ScanRefusal.NoMemory }
     requires refused { Refuses source.now refusal }
-    ensures { IfOk result (λ said. Explains file.now source.now said.line.items said.text.items) }
+    ensures { IfOk result (λ said. Explains file.now source.now said.fault said.text.items) }
 {
-    let mut line = Vec::new(alloc);
-    put_scan_line(&mut line, refusal)?;
+    let Some(fault) = Fault::of_scan(refusal) else {
+        return Err(AllocError);
+    };
     let mut text = Vec::new(alloc);
     put_scan(&mut text, file, source, refusal)?;
-    Ok(Explanation { line, text })
+    Ok(Explanation { fault, text })
 }
 
 // What is said of a source whose tokens go wrong at the place.
@@ -64,13 +64,14 @@ fn said_of_syntax(
     requires short { length source.now ≤ most_source_bytes }
     requires scanned { Tokens source.now 0 tokens.now }
     requires refused { IsRefused source.now tokens.now (ParseRefusal.Syntax at) }
-    ensures { IfOk result (λ said. Explains file.now source.now said.line.items said.text.items) }
+    ensures { IfOk result (λ said. Explains file.now source.now said.fault said.text.items) }
 {
     tokens_are_in_order();
-    let mut line = Vec::new(alloc);
-    put_line_at(&mut line, b"syntax at ", at)?;
     let text = explain_syntax(alloc, file, source, tokens, at)?;
-    Ok(Explanation { line, text })
+    Ok(Explanation {
+        fault: Fault::Syntax { at },
+        text,
+    })
 }
 
 // Appends what is said of a place at which a tree is too deep.
@@ -93,13 +94,14 @@ fn said_of_depth(
     requires short { length source.now ≤ most_source_bytes }
     requires scanned { Tokens source.now 0 tokens.now }
     requires refused { IsRefused source.now tokens.now (ParseRefusal.TooNested at) }
-    ensures { IfOk result (λ said. Explains file.now source.now said.line.items said.text.items) }
+    ensures { IfOk result (λ said. Explains file.now source.now said.fault said.text.items) }
 {
-    let mut line = Vec::new(alloc);
-    put_line_at(&mut line, b"too nested at ", at)?;
     let mut text = Vec::new(alloc);
     put_depth(&mut text, file, source, at)?;
-    Ok(Explanation { line, text })
+    Ok(Explanation {
+        fault: Fault::TooNested { at },
+        text,
+    })
 }
 
 // What is said of a source whose tokens the parser refuses.
@@ -113,7 +115,7 @@ fn said_of_parse(
     requires short { length source.now ≤ most_source_bytes }
     requires scanned { Tokens source.now 0 tokens.now }
     requires refused { IsRefused source.now tokens.now refusal.now }
-    ensures { IfOk result (λ said. Explains file.now source.now said.line.items said.text.items) }
+    ensures { IfOk result (λ said. Explains file.now source.now said.fault said.text.items) }
 {
     match refusal {
         ParseRefusal::Syntax { at } => said_of_syntax(alloc, file, source, tokens, *at),
@@ -133,12 +135,13 @@ fn said_of_names(
     requires short { length source.now ≤ most_source_bytes }
     requires spelt { IsSpelt source.now tree.now }
     requires refused { IsLeastFault tree.now refusal.now }
-    ensures { IfOk result (λ said. Explains file.now source.now said.line.items said.text.items) }
+    ensures { IfOk result (λ said. Explains file.now source.now said.fault said.text.items) }
 {
-    let mut line = Vec::new(alloc);
-    put_names_line(&mut line, refusal)?;
+    let Some(fault) = Fault::of_names(refusal) else {
+        return Err(AllocError);
+    };
     let text = text_of_names(alloc, file, source, tree, refusal)?;
-    Ok(Explanation { line, text })
+    Ok(Explanation { fault, text })
 }
 
 // What is said of a source by its tree, where the names of that are refused.
@@ -151,7 +154,7 @@ fn explain_tree(
     requires short { length source.now ≤ most_source_bytes }
     requires spelt { IsSpelt source.now tree.now }
     requires well_made { IsWellMade tree.now }
-    ensures refused { IfOk result (λ found. IfSome found (λ said. Explains file.now source.now said.line.items said.text.items)) }
+    ensures refused { IfOk result (λ found. IfSome found (λ said. Explains file.now source.now said.fault said.text.items)) }
     ensures accepted { IfOk result (λ found. IfNone found (IsAccepted source.now)) }
 {
     match resolve(alloc, tree) {
@@ -173,7 +176,7 @@ fn explain_tokens(
 ) -> Result<Option<Explanation>, AllocError>
     requires short { length source.now ≤ most_source_bytes }
     requires scanned { Tokens source.now 0 tokens.now }
-    ensures refused { IfOk result (λ found. IfSome found (λ said. Explains file.now source.now said.line.items said.text.items)) }
+    ensures refused { IfOk result (λ found. IfSome found (λ said. Explains file.now source.now said.fault said.text.items)) }
     ensures accepted { IfOk result (λ found. IfNone found (IsAccepted source.now)) }
 {
     match parse(alloc, source, tokens) {
@@ -191,7 +194,7 @@ pub fn explain_source(
     file: &[u8],
     source: &[u8],
 ) -> Result<Option<Explanation>, AllocError>
-    ensures refused { IfOk result (λ found. IfSome found (λ said. Explains file.now source.now said.line.items said.text.items)) }
+    ensures refused { IfOk result (λ found. IfSome found (λ said. Explains file.now source.now said.fault said.text.items)) }
     ensures accepted { IfOk result (λ found. IfNone found (IsAccepted source.now)) }
 {
     match scan(alloc, source) {

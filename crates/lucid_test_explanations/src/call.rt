@@ -2,7 +2,7 @@
 ghost use Rattle.std.specs.Prelude.{◌≡◌, IfOk};
 ghost use Rattle.lucid_ports.specs.MemoryView.{memory_world};
 
-use lucid_explain_command::{Watched, lucid_explain};
+use lucid_explain_command::{Remembering, Watched, lucid_explain};
 use lucid_explain_report::{Again, Outlook};
 use lucid_ports::{MemoryFile, MemoryPlaces, MemorySink, Sink};
 use lucid_report::Status;
@@ -82,7 +82,8 @@ pub(crate) fn call_into<K: Sink>(
     outlook: &OneFile<'_>,
 ) -> Result<Answer, AllocError> {
     let words = words_of(alloc, words)?;
-    let mut places = places_of(alloc, source)?;
+    let inner = places_of(alloc, source)?;
+    let mut places = Remembering::make(alloc, inner);
     let mut report = MemorySink::make(alloc, 100, Vec::new(alloc));
     let status = lucid_explain(alloc, &words, &mut places, outlook, out, &mut report);
     Ok(Answer { status, report })

@@ -1,4 +1,4 @@
-//! An output for which there is never memory, and a source that reads otherwise when it is read again.
+//! An output for which there is never memory, and a source that is a pipe.
 use crate::call::{OneFile, call, call_into};
 use lucid_explain_command::Watched;
 use lucid_ports::{PortFault, Sink};
@@ -39,20 +39,23 @@ fn is_told(alloc: Global) -> Result<bool, AllocError> {
     Ok(answer.tells(Status::NoMemory, NO_MEMORY))
 }
 
-// What comes again of the program `1 / 2`.
-const OTHERWISE: OneFile<'static> = OneFile {
-    source: Some(b"1 +"),
+// What comes again of a pipe.
+const PIPE: OneFile<'static> = OneFile {
+    source: None,
     terminal: false,
 };
 
-fn is_not_explained(alloc: Global) -> Result<bool, AllocError> {
-    let answer = call(alloc, "p", b"1 / 2", &OTHERWISE)?;
-    Ok(answer.tells(Status::Refused, "bad byte at 2\n"))
+const BAD_BYTE: &str =
+    "bad byte at 2\np:1:3:\n1 / 2\n  ^\nDivision is `div`, and what it leaves over is `mod`. A comment begins with `//`.\n";
+
+fn is_explained(alloc: Global) -> Result<bool, AllocError> {
+    let answer = call(alloc, "p", b"1 / 2", &PIPE)?;
+    Ok(answer.tells(Status::Refused, BAD_BYTE))
 }
 
 #[test]
-fn no_memory_and_another_source(rt: HostRuntime) -> Result<(), Fail> {
-    let facts = [is_told(rt.alloc())?, is_not_explained(rt.alloc())?];
+fn no_memory_and_a_pipe(rt: HostRuntime) -> Result<(), Fail> {
+    let facts = [is_told(rt.alloc())?, is_explained(rt.alloc())?];
     assert_eq!(rt; facts, [true, true]);
     Ok(())
 }

@@ -1,6 +1,7 @@
 //! Places by line and column, and as they are shown; what may stand at a place; what is said of lines of certificates.
 use lucid_explain_places::{Position, position_of, put_place, standing};
-use lucid_explain_report::line_text;
+use lucid_explain_report::stop_text;
+use lucid_report::{Refusal, Stop};
 use std::alloc::{AllocError, Global};
 use std::test::Fail;
 
@@ -78,25 +79,28 @@ fn what_may_stand(rt: HostRuntime) -> Result<(), Fail> {
     Ok(())
 }
 
-// Lines that are reported of certificates, and what is said of them.
-const LINES: [(&[u8], &[u8]); 3] = [
-    (
-        b"certificate too long\n",
-        b"A certificate has at most 268,435,456 bytes.\n",
-    ),
-    (
-        b"line 7 is no judgment\n",
-        b"No certificate's text goes on with this line: a context stands in a line as `c BASE PLACE CALLER` or `z BASE TIME`, and behind all of these a judgment as `j NODE CONTEXT TIME SPACE K U .. VALUE`.\n",
-    ),
-    (
-        b"judgment 12 does not follow\n",
-        b"The judgment of this number, from 0, isn't what its node gives from the judgments that it uses, or it is the last one and not that of the program itself. The certificate is false, or it is one of another program or of other inputs.\n",
-    ),
-];
+// What is said of three stops by a certificate.
+const TOO_LONG: &[u8] = b"A certificate has at most 268,435,456 bytes.\n";
+
+const NO_JUDGMENT: &[u8] =
+    b"No certificate's text goes on with this line: a context stands in a line as `c BASE PLACE CALLER` or `z BASE TIME`, and behind all of these a judgment as `j NODE CONTEXT TIME SPACE K U .. VALUE`.\n";
+
+const WRONG: &[u8] =
+    b"The judgment of this number, from 0, isn't what its node gives from the judgments that it uses, or it is the last one and not that of the program itself. The certificate is false, or it is one of another program or of other inputs.\n";
+
+fn says(stop: &Stop, text: &[u8]) -> bool {
+    stop_text(stop) == text
+}
+
+fn say_so() -> [bool; 3] {
+    [
+        says(&Stop::Refused(Refusal::CertificateTooLong), TOO_LONG),
+        says(&Stop::Refused(Refusal::NoJudgment { line: 7 }), NO_JUDGMENT),
+        says(&Stop::Wrong { judgment: 12 }, WRONG),
+    ]
+}
 
 #[test]
-fn lines_of_certificates(rt: HostRuntime) {
-    for (line, text) in LINES {
-        assert!(rt; line_text(line) == text, "{line:?}");
-    }
+fn stops_by_certificates(rt: HostRuntime) {
+    assert_eq!(rt; say_so(), [true, true, true]);
 }

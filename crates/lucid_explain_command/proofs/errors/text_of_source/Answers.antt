@@ -9,7 +9,7 @@ returns-in-Some g c =
     let call = c.args.call.now in
     let words = map string_bytes call.words.now in
     let asked = plain_words call.asked.now in
-    let source = c.args.source.now in
+    let source = call.source.now in
     let is = rw c.in-Some.is at c.in_ok-certificate.ensures in
     IfOk-weaker c.text_made.result (λ text. SaysMade files asked call.name.now source c.deref.result.now text.items)
     (λ text. SaysOfTime files terminal words asked call.name.now source call.time text.items)
@@ -23,7 +23,7 @@ returns-in-None g c =
     let call = c.args.call.now in
     let words = map string_bytes call.words.now in
     let asked = plain_words call.asked.now in
-    let source = c.args.source.now in
+    let source = call.source.now in
     let is = rw c.in-None.is at c.in_ok-certificate.ensures in
     IfOk-weaker c.text_unmade.result (λ text. SaysUnmade terminal asked source text.items)
     (λ text. SaysOfTime files terminal words asked call.name.now source call.time text.items)

@@ -1,12 +1,12 @@
+use Rattle.std.proofs.Common.{◌≡◌, ◌∙◌}
 use Rattle.std.proofs.lemmas.Result.{IfOk-weaker}
-use Rattle.lucid_words.specs.Asked.{plain_words}
-use Rattle.lucid_explain_report.specs.Said.{cause_of, TellsBy, Tells, accepted}
+use Rattle.lucid_explain_report.specs.Stops.{stop_text}
+use Rattle.lucid_explain_report.specs.Said.{TellsFault, accepted}
 use Rattle.lucid_explain_report.proofs.sources.text_of_accepted.Goals as goal
 
 pub returns : goal.returns
 returns c =
-    let asked = plain_words c.args.reported.now.asked.now in
-    IfOk-weaker c.text_by.result
-    (λ text. TellsBy (cause_of asked c.args.reported.now.source.now c.args.reported.now.line.now) asked c.args.reported.now.name.now c.args.reported.now.source.now c.args.reported.now.line.now text.items)
-    (λ text. Tells asked c.args.reported.now.name.now c.args.reported.now.source.now c.args.reported.now.line.now text.items)
-    (λ text t. accepted c.requires t) c.text_by.ensures
+    let stopped = c.args.stopped.now in
+    IfOk-weaker c.from_slice.result (λ text. text.items ≡ c.stop_text.result.now)
+    (λ text. TellsFault c.args.fault stopped.name.now stopped.source.now (stop_text stopped.stop.now) text.items)
+    (λ text e. accepted c.requires (e ∙ c.stop_text.ensures)) c.from_slice.ensures.items

@@ -7,5 +7,5 @@ returns c = (
   c.in_ok-said.ensures,
   c.in_ok-extend_from_slice.ensures.items
       ∙ ap (λ (z : List ℕ). c.in_ok-text.text.items ++ z) c.deref.ensures.value
-      ∙ ap (λ (z : List ℕ). z ++ c.in_ok-said.said.items) (c.in_ok-text.ensures.items ∙ c.line_text.ensures),
+      ∙ ap (λ (z : List ℕ). z ++ c.in_ok-said.said.items) (c.in_ok-text.ensures.items ∙ c.stop_text.ensures),
 )

@@ -1,23 +1,23 @@
-use Rattle.std.proofs.Common.{◌≡◌, ℕ, List, true, sym, subst, ◌∙◌}
+use Rattle.std.proofs.Common.{◌≡◌, true, subst, ◌∙◌}
 use Rattle.std.proofs.lemmas.Result.{IfOk-weaker}
-use Rattle.lucid_words.specs.Asked.{plain_words}
+use Rattle.lucid_explain_source.specs.declared.fault.Fault.{Fault}
 use Rattle.lucid_explain_source.specs.Sources.{Explains}
-use Rattle.lucid_explain_report.specs.Said.{cause_of, TellsBy, Tells, refused, otherwise}
+use Rattle.lucid_explain_report.specs.Stops.{stop_text}
+use Rattle.lucid_explain_report.specs.Said.{TellsFault, its_own, another}
 use Rattle.lucid_explain_report.proofs.sources.text_of_refused.Goals as goal
 
-pub returns-then-is_line : goal.returns-then-is_line
-returns-then-is_line c =
-    let P : List ℕ → Type 0 = λ l. Explains c.args.reported.now.name.now c.args.reported.now.source.now l c.args.said.text.items in
-    let same = c.is_line.ensures.0 c.if-is_line.true ∙ c.deref.ensures.value in
-    refused (subst P (sym same) c.requires)
+pub returns-then-is_same : goal.returns-then-is_same
+returns-then-is_same c =
+    let stopped = c.args.stopped.now in
+    let P : Fault → Type 0 = λ f. Explains stopped.name.now stopped.source.now f c.args.said.text.items in
+    its_own (subst P (c.is_same.ensures.0 c.if-is_same.true) c.requires)
 
-pub returns-else-is_line : goal.returns-else-is_line
-returns-else-is_line c =
-    let asked = plain_words c.args.reported.now.asked.now in
-    IfOk-weaker c.text_by.result
-    (λ text. TellsBy (cause_of asked c.args.reported.now.source.now c.args.reported.now.line.now) asked c.args.reported.now.name.now c.args.reported.now.source.now c.args.reported.now.line.now text.items)
-    (λ text. Tells asked c.args.reported.now.name.now c.args.reported.now.source.now c.args.reported.now.line.now text.items)
-    (λ text t.
-    otherwise c.args.said.line.items c.args.said.text.items c.requires
-    (λ same. let e : c.is_line.result ≡ true = c.is_line.ensures.1 (sym (c.deref.ensures.value ∙ same)) in let f = c.if-is_line.false in cc)
-    t) c.text_by.ensures
+pub returns-else-is_same : goal.returns-else-is_same
+returns-else-is_same c =
+    let stopped = c.args.stopped.now in
+    IfOk-weaker c.from_slice.result (λ text. text.items ≡ c.stop_text.result.now)
+    (λ text. TellsFault c.args.fault stopped.name.now stopped.source.now (stop_text stopped.stop.now) text.items)
+    (λ text e.
+    another c.args.said.fault c.args.said.text.items c.requires
+    (λ same. let e : c.is_same.result ≡ true = c.is_same.ensures.1 same in let f = c.if-is_same.false in cc)
+    (e ∙ c.stop_text.ensures)) c.from_slice.ensures.items

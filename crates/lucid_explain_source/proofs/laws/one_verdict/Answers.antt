@@ -1,4 +1,4 @@
-use Rattle.lucid_explain_source.proofs.Verdicts.{Laws, accepted_or_refused, explained_are_refused, one_line}
+use Rattle.lucid_explain_source.proofs.Verdicts.{Laws, accepted_or_refused, explained_are_refused, one_fault}
 use Rattle.lucid_explain_source.proofs.laws.one_verdict.Goals as goal
 
 pub returns : goal.returns
@@ -17,5 +17,5 @@ returns c =
     record {
       accepted = λ source. accepted_or_refused laws source;
       refused = λ file source. explained_are_refused laws source file;
-      one_line = λ file source. one_line laws source file;
+      one_fault = λ file source. one_fault laws source file;
     }

@@ -1,6 +1,5 @@
-use Rattle.std.proofs.Common.{ℕ, List, ◌++◌, ap, ◌∙◌}
+use Rattle.std.proofs.Common.{refl}
 use Rattle.lucid_explain_places.proofs.Begun.{fault_within}
-use Rattle.lucid_explain_source.specs.Reported.{syntax_line}
 use Rattle.lucid_explain_source.specs.Sources.{by_syntax}
 use Rattle.lucid_explain_source.proofs.sources.said_of_syntax.Goals as goal
 
@@ -11,5 +10,4 @@ explain_syntax-requires-clause-within c = fault_within c.args.source.now c.args.
 pub returns : goal.returns
 returns c =
     let said = c.in_ok-text.ensures in
-    by_syntax c.args.tokens.now c.args.at said.0 (record { short = c.requires.short; listed = c.requires.scanned }) c.requires.refused said.1
-    (c.in_ok-put_line_at.ensures ∙ ap (λ (z : List ℕ). z ++ syntax_line c.args.at) c.new-line.ensures.items) said.2
+    by_syntax c.args.tokens.now c.args.at said.0 (record { short = c.requires.short; listed = c.requires.scanned }) c.requires.refused said.1 refl said.2
