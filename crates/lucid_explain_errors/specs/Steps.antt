@@ -2,6 +2,7 @@
 use Rattle.std.specs.Prelude.{◌≡◌, ℕ, ◌-◌, ◌≤◌, nat_le, Bool, is_some, if◌then◌else◌, List, [], ◌∷◌, ◌++◌, length, map, take, drop, filter, codes, decimal, Option, Some, None, slice_get}
 use Rattle.std.specs.List.{flat_map}
 use Rattle.lucid_tree.specs.Tree.{PlainTree}
+use Rattle.lucid_scan.specs.Refusals.{most_source_bytes}
 use Rattle.lucid_equations.specs.declared.table.Table.{Table}
 use Rattle.lucid_compile.specs.Origins.{places_of, origins_of}
 use Rattle.lucid_cert_rules.specs.Certificates.{PlainJudgment, plain_judgment}
@@ -27,7 +28,7 @@ plain_sight s = record { file = s.file.now; source = s.source.now; tree = s.tree
 -- The origins are the tree's, and the source isn't too long.
 pub record FitsTree (s : Sight) : Type 0 where
   pub origins : places_of s.origins.now ≡ origins_of s.tree.now
-  pub short : length s.source.now ≤ 1048576
+  pub short : length s.source.now ≤ most_source_bytes
 
 -- the judgments of names and calls among some
 abbrev pub is_named : Table → List PlainJudgment → (number : ℕ) → Bool

@@ -1,5 +1,6 @@
 //! What is said of a value that is `error` or the end of data.
 ghost use Rattle.std.specs.Prelude.{◌≡◌, ◌≤◌, ℕ, List, length, map, None, Some, slice_get, IfOk};
+ghost use Rattle.lucid_scan.specs.Refusals.{most_source_bytes};
 ghost use Rattle.lucid_scope.specs.Scoped.{scoped_tree};
 ghost use Rattle.lucid_cert_rules.specs.Certificates.{plain_judgment};
 ghost use Rattle.lucid_cert_rules.specs.WhyTexts.{IsFirstWrongLine};
@@ -78,7 +79,7 @@ fn text_of_scoped(
     scoped: &Scoped,
 ) -> Result<Vec<u8>, AllocError>
     requires traced { traced_at read.now.why.now.judgments (last_number read.now.why.now) ≡ Some traced }
-    requires short { length read.now.source.now ≤ 1048576 }
+    requires short { length read.now.source.now ≤ most_source_bytes }
     requires program { IsProgram read.now.source.now (scoped_tree scoped.now) }
     ensures { IfOk result (λ text. TellsWhy read.now.file.now read.now.source.now read.now.inputs.now read.now.why.now text.items) }
 {
