@@ -1,6 +1,6 @@
 -- What one byte more changes of what is seen in bytes, and so that what is noted byte by byte is what is seen in all of them.
 use Rattle.std.proofs.Common.{◌≡◌, ℕ, suc, ◌+◌, ◌<◌, Bool, true, false, cond, List, [], ◌∷◌, ◌++◌, length, take, Option, Some, None, refl, sym, ap, subst, ◌∙◌, arith, append_assoc, append-nil, length-append, inl, inr}
-use Rattle.std.specs.Prelude.{◌==◌, nat_eq, nat_lt, ◌&&◌, if◌then◌else◌, codes, fold, slice_index, option_map, IfSome}
+use Rattle.std.specs.Prelude.{◌==◌, nat_eq, nat_lt, ◌&&◌, if◌then◌else◌, codes, fold, slice_index, option_map}
 use Rattle.std.specs.List.{slice_split, onto_first, position, position_from, starts_with}
 use Rattle.std.specs.Option.{option_or}
 use Rattle.std.specs.Cmp.Lexicographic.{pointwise, unequal}
@@ -8,11 +8,11 @@ use Rattle.std.proofs.lemmas.Bool.Decides.{nat_tests}
 use Rattle.std.proofs.lemmas.Bool.{cases_Bool, cases_eq, eq-eqb, eqb-true, lt-ltb, ne_eqb}
 use Rattle.std.proofs.lemmas.Iterator.Adapters.{position_from-zero}
 use Rattle.std.proofs.lemmas.List.Splits.{length-slice_split}
+use Rattle.lucid_lists.proofs.Numbers.{equality_turned}
 use Rattle.lucid_ports.specs.Writing.{with_front}
 use Rattle.lucid_texts.specs.TextLines.{all_but_last, whole_lines}
-use Rattle.lucid_explain_command.specs.declared.noted.Noted.{Noted}
-use Rattle.lucid_explain_command.specs.Noting.{Seen, plain_noted, is_error, counted, Notes}
-use Rattle.lucid_explain_command.specs.Watching.{last_part, open_line, matched_in, Marks, plain_marks, marks_in, AreMarks, matched_more, is_whole, first_of, note}
+use Rattle.lucid_explain_command.specs.Noting.{is_error, counted}
+use Rattle.lucid_explain_command.specs.Watching.{last_part, open_line, matched_in, Marks, marks_in, AreMarks, matched_more, is_whole, first_of, note}
 
 -- bytes have one part at least
 some_parts : (bs : List ℕ) → 0 < length (slice_split (λ b. b == 10) bs)
@@ -87,9 +87,6 @@ open_more b bs n = ap last_part (split_more b bs n) ∙ last_grown b (slice_spli
 less_suc : (m n : ℕ) → nat_lt m n ≡ nat_lt (suc m) (suc n)
 less_suc m n = grind (arith, nat_tests)
 
-same_test : (a b : ℕ) → (a == b) ≡ (b == a)
-same_test a b = grind (arith, nat_tests)
-
 and_three : (a b c : Bool) → (a && (b && c)) ≡ ((a && b) && c)
 and_three true b c = refl
 and_three false b c = refl
@@ -102,7 +99,7 @@ front_more : (text line : List ℕ) (b : ℕ)
     → starts_with nat_eq text (line ++ b ∷ []) ≡ (starts_with nat_eq text line && (nat_lt (length line) (length text) && (slice_index text (length line) == b)))
 front_more [] [] b = refl
 front_more (t ∷ ts) [] b =
-    and_true (nat_eq b t) ∙ (same_test b t ∙ ap (λ (z : Bool). z && (t == b)) (sym (lt-ltb 0 (length (t ∷ ts)) (omega arith))))
+    and_true (nat_eq b t) ∙ (equality_turned b t ∙ ap (λ (z : Bool). z && (t == b)) (sym (lt-ltb 0 (length (t ∷ ts)) (omega arith))))
 front_more [] (l ∷ ls) b = refl
 front_more (t ∷ ts) (l ∷ ls) b =
     let next = slice_index ts (length ls) == b in
@@ -216,16 +213,3 @@ pub kept_more : (written : Option (List ℕ)) (old new : Marks) (k : ℕ) (piece
     → AreMarks (with_front k piece written) new
 kept_more None old new k piece kept e = tt
 kept_more (Some bs) old new k piece kept e = e ∙ ap (λ (m : Marks). fold note m (take k piece)) kept ∙ marks_more (take k piece) bs
-
--- and where nothing is written yet
-pub kept_fresh : (written : Option (List ℕ)) (new : Marks) → IfSome written (λ bs. bs ≡ []) → new ≡ marks_in [] → AreMarks written new
-kept_fresh None new fresh e = tt
-kept_fresh (Some bs) new fresh e = e ∙ ap marks_in (sym fresh)
-
--- What a sink keeps tells what is seen.
-abbrev seen_of : Marks → Seen
-seen_of m = record { lines = m.lines; first = m.first }
-
-pub seen_told : (written : Option (List ℕ)) (noted : Noted) → AreMarks written (plain_marks noted) → Notes written (plain_noted noted)
-seen_told None noted kept = tt
-seen_told (Some bs) noted kept = ap seen_of kept
