@@ -1,6 +1,6 @@
 -- What the proofs of the check take of std, and what two of them or more cite of other modules, passed on from one place. Declares nothing.
 pub use Rattle.lucid_cert.specs.Checked.{Checked, MayBe}
-pub use Rattle.lucid_cert.specs.Checks.{IsSameCheck, IsSound, contexts_in, judgments_of}
+pub use Rattle.lucid_cert.specs.Checks.{IsSameCheck, IsSoundCheck, contexts_in, judgments_of}
 pub use Rattle.lucid_cert.specs.CheckReads.{DrawsFor, LiesWithin, ReadsFor, TellsElement, element_read, nothing_read}
 pub use Rattle.lucid_cert.specs.Uses.{told}
 pub use Rattle.lucid_cert.specs.declared.check.Check.{Check}

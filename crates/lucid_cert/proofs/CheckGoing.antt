@@ -1,5 +1,5 @@
 -- The loop over judgments.
-use Rattle.lucid_cert.proofs.CheckCommon.{◌≡◌, ◌↔◌, ℕ, ◌+◌, ◌<◌, true, false, List, [], ◌∷◌, length, Option, Some, refl, sym, ap, ◌∙◌, subst, Result, Ok, Err, IfOk, IsErrAnd, Elements, Context, root, World, Inputs, streams, table_of, Table, AreAskable, PlainJudgment, Why, contexts, FollowsIn, IsOfRoot, MayBe, Checked, judgments_of, contexts_in, IsSound, IsSameCheck, ReadsFor, Check, CheckFault, Wrong}
+use Rattle.lucid_cert.proofs.CheckCommon.{◌≡◌, ◌↔◌, ℕ, ◌+◌, ◌<◌, true, false, List, [], ◌∷◌, length, Option, Some, refl, sym, ap, ◌∙◌, subst, Result, Ok, Err, IfOk, IsErrAnd, Elements, Context, root, World, Inputs, streams, table_of, Table, AreAskable, PlainJudgment, Why, contexts, FollowsIn, IsOfRoot, MayBe, Checked, judgments_of, contexts_in, IsSoundCheck, IsSameCheck, ReadsFor, Check, CheckFault, Wrong}
 use Rattle.std.proofs.Common.{Bool}
 use Rattle.lucid_inputs.specs.Laws.{PlacesDiffer}
 use Rattle.lucid_demand_steps.proofs.Reading.{inputs_apart}
@@ -10,14 +10,14 @@ use Rattle.lucid_cert.proofs.Judging.{FollowSoFar, LooksAt, none_so_far, one_fol
 
 -- A check of this certificate against this table, of which the judgments below a number follow.
 pub record GoesOn (T : Table) (w : Why) (old : Inputs) (before : World) (n : ℕ) (c : Check) (now : Inputs) (mid : World) : Type 0 where
-  pub sound : IsSound c
+  pub sound : IsSoundCheck c
   pub table : table_of c.program.now ≡ T
   pub judgments : judgments_of c ≡ w.judgments
   pub contexts : contexts_in c ≡ contexts T w
   pub so_far : FollowSoFar T w old before n now mid
 
 -- None is looked at yet.
-pub begins : (T : Table) (w : Why) (old : Inputs) (before : World) (c : Check) (rows : List ContextRow) → IsSound c → table_of c.program.now ≡ T
+pub begins : (T : Table) (w : Why) (old : Inputs) (before : World) (c : Check) (rows : List ContextRow) → IsSoundCheck c → table_of c.program.now ≡ T
     → judgments_of c ≡ w.judgments
     → contexts_in c ≡ contexts_behind (length T.places) (Some root ∷ []) rows → rows ≡ w.contexts → AreAskable (streams old) before → GoesOn T w old before 0 c old before
 unfolding contexts
@@ -42,7 +42,7 @@ module _ (T : Table) (w : Why) (old : Inputs) (before : World) (n : ℕ) (c : Ch
   by_check P h =
       subst (λ x. P T (contexts T w) x) g.judgments (subst (λ x. P T x (judgments_of c)) g.contexts (subst (λ x. P x (contexts_in c) (judgments_of c)) g.table h))
 
-  module _ (d : Check) (next : Inputs) (after : World) (sound : IsSound d) (same : IsSameCheck c d) (result : Result Bool CheckFault)
+  module _ (d : Check) (next : Inputs) (after : World) (sound : IsSoundCheck d) (same : IsSameCheck c d) (result : Result Bool CheckFault)
       (follows : IfOk result (λ it. (b : Elements) → MayBe (table_of c.program.now) next b
       → (it ≡ true) ↔ FollowsIn (table_of c.program.now) b (contexts_in c) (judgments_of c) n))
       (reads : ReadsFor (table_of c.program.now) (contexts_in c) (judgments_of c) n now next mid after result) where

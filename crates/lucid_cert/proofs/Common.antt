@@ -1,7 +1,7 @@
 -- What the proofs of this crate take of std, and what two of them or more cite of other modules, passed on from one place. Declares nothing.
 pub use Rattle.lucid_cert.specs.Certified.{IsCertificate, Made}
 pub use Rattle.lucid_cert.specs.Drawn.{AsDemanded, HasDrawn, root_task, view_of}
-pub use Rattle.lucid_cert.specs.Makers.{AreFollowing, AreKeysOf, Each, FollowAmong, GivesBy, Goes, Grows, IsForming, IsJudgmentAt, IsMade, IsPassing, IsRoot, IsSound, IsSoundBy, IsWaiting, Leaves, MayJudge, RootStands, Settles, Spot, WaitsFor, Wants, WantsBy, judgments_of, spot_at, spot_by, spot_of, table_in}
+pub use Rattle.lucid_cert.specs.Makers.{AreFollowing, AreKeysOf, Each, FollowAmong, GivesBy, Goes, Grows, IsForming, IsJudgmentAt, IsMade, IsPassing, IsRoot, IsSoundMaker, IsSoundBy, IsWaiting, Leaves, MayJudge, RootStands, Settles, Spot, WaitsFor, Wants, WantsBy, judgments_of, spot_at, spot_by, spot_of, table_in}
 pub use Rattle.lucid_cert.specs.Makings.{HasUse}
 pub use Rattle.lucid_cert.specs.Reads.{HasRead, IsOwn, ReadsElement, ReadsFor, ReadsNext, element_read, nothing_read}
 pub use Rattle.lucid_cert.specs.Traces.{Trace, gone}

@@ -1,5 +1,5 @@
 -- What each step makes of a certificate in the making.
-use Rattle.lucid_cert.proofs.Common.{◌≡◌, ℕ, ◌<◌, true, false, List, [], ◌∷◌, ◌++◌, map, length, Some, refl, sym, ap, ◌∙◌, inl, inr, subst, arith, append_assoc, length-append, ◌^◌, list_any, AllByRecursion, append-nil, slice_get-push_same, Elements, Context, same_key, IsOneForOne, KeepsKnown, context_of, number_of, tag_of, Key, Table, PlainJudgment, MayShowJudgment, FollowsIn, Judged, context_in, given, used, ArePlaces, AreTimes, Position, AreFollowing, Each, FollowAmong, GivesBy, Goes, Grows, IsJudgmentAt, IsMade, IsSound, IsSoundBy, IsWaiting, MayJudge, RootStands, Settles, Spot, judgments_of, spot_at, spot_by, spot_of, table_in, Maker, Making}
+use Rattle.lucid_cert.proofs.Common.{◌≡◌, ℕ, ◌<◌, true, false, List, [], ◌∷◌, ◌++◌, map, length, Some, refl, sym, ap, ◌∙◌, inl, inr, subst, arith, append_assoc, length-append, ◌^◌, list_any, AllByRecursion, append-nil, slice_get-push_same, Elements, Context, same_key, IsOneForOne, KeepsKnown, context_of, number_of, tag_of, Key, Table, PlainJudgment, MayShowJudgment, FollowsIn, Judged, context_in, given, used, ArePlaces, AreTimes, Position, AreFollowing, Each, FollowAmong, GivesBy, Goes, Grows, IsJudgmentAt, IsMade, IsSoundMaker, IsSoundBy, IsWaiting, MayJudge, RootStands, Settles, Spot, judgments_of, spot_at, spot_by, spot_of, table_in, Maker, Making}
 use Rattle.lucid_lists.proofs.Numbers.{below_or_last}
 use Rattle.lucid_texts.specs.Words.{AreBelow}
 use Rattle.lucid_cert.specs.Makers.{made, waits}
@@ -11,7 +11,7 @@ use Rattle.lucid_cert.proofs.Forming.{waiting_still}
 -- what is said of parts that are a maker's is said of it
 pub sound_of : (m : Maker) (T : Table) (known : List Context) (keys : List Key) (js : List PlainJudgment) (waiting : List Making) → table_in m ≡ T
     → m.tags ≡ known → m.keys.keys ≡ keys → judgments_of m ≡ js
-    → m.waiting.items ≡ waiting → IsSoundBy T known keys js waiting → IsSound m
+    → m.waiting.items ≡ waiting → IsSoundBy T known keys js waiting → IsSoundMaker m
 sound_of m T known keys js waiting a b c d e h =
     subst (λ x. IsSoundBy (table_in m) m.tags m.keys.keys (judgments_of m) x) (sym e) (subst (λ x. IsSoundBy (table_in m) m.tags m.keys.keys x waiting) (sym d)
     (subst (λ x. IsSoundBy (table_in m) m.tags x js waiting) (sym c)
@@ -78,7 +78,7 @@ grows_none m T known js p q r =
 
 module _ (old new : Maker) (table : table_in new ≡ table_in old) (known : new.tags ≡ old.tags) (keys : new.keys.keys ≡ old.keys.keys)
     (js : judgments_of new ≡ judgments_of old) where
-  pub goes_waiting : (w : Making) → new.waiting.items ≡ old.waiting.items ++ w ∷ [] → IsSound old → IsWaiting (table_in old) old.tags (judgments_of old) w
+  pub goes_waiting : (w : Making) → new.waiting.items ≡ old.waiting.items ++ w ∷ [] → IsSoundMaker old → IsWaiting (table_in old) old.tags (judgments_of old) w
       → Goes old new w.at w.space
   goes_waiting w e s h = record {
     sound = sound_of new (table_in old) old.tags old.keys.keys (judgments_of old) (old.waiting.items ++ w ∷ []) table known keys js e
@@ -88,7 +88,7 @@ module _ (old new : Maker) (table : table_in new ≡ table_in old) (known : new.
   }
 
   -- It was made before.
-  pub goes_made_before : (at : Position) (space : ℕ) (key : Key) → spot_by key ≡ spot_at at space → new.waiting.items ≡ old.waiting.items → IsSound old
+  pub goes_made_before : (at : Position) (space : ℕ) (key : Key) → spot_by key ≡ spot_at at space → new.waiting.items ≡ old.waiting.items → IsSoundMaker old
       → list_any (same_key key) old.keys.keys ≡ true → Goes old new at space
   goes_made_before at space key spot e s there = record {
     sound = sound_of new (table_in old) old.tags old.keys.keys (judgments_of old) old.waiting.items table known keys js e s;
@@ -174,7 +174,7 @@ module _ (T : Table) (known : List Context) (keys : List Key) (js : List PlainJu
 
 pub goes_made : (old new : Maker) (at : Position) (space : ℕ) (j : PlainJudgment) (key : Key) → table_in new ≡ table_in old → new.tags ≡ old.tags
     → new.keys.keys ≡ old.keys.keys ++ key ∷ []
-    → judgments_of new ≡ judgments_of old ++ j ∷ [] → new.waiting.items ≡ old.waiting.items → IsSound old → MayJudge (table_in old) old.tags at space
+    → judgments_of new ≡ judgments_of old ++ j ∷ [] → new.waiting.items ≡ old.waiting.items → IsSoundMaker old → MayJudge (table_in old) old.tags at space
     → spot_of j ≡ spot_at at space → spot_by key ≡ spot_at at space
     → list_any (same_key key) old.keys.keys ≡ false → length (judgments_of old) < 2 ^ 32 → length j.uses < 2 ^ 32
     → AllByRecursion (λ u. u < length (judgments_of old)) j.uses → Goes old new at space

@@ -1,5 +1,5 @@
 -- What each step makes of what waits.
-use Rattle.lucid_cert.proofs.Common.{◌≡◌, ℕ, ◌+◌, ◌-◌, ◌<◌, ◌≤◌, List, [], ◌∷◌, ◌++◌, Some, None, ◌⊎◌, inl, inr, sym, ap, ◌∙◌, subst, arith, true≢false, Result, Ok, Err, OnOk, IsErrOf, Bool, true, false, IsTrue, ◌↔◌, cases_lt, PlainValue, Elements, nowhere, Context, IsKnown, KeepsKnown, context_of, IsInRange, row_at, Node, Input, Table, PlainTask, task_val, PassesOn, going, row_onward, by_then, least_of, rest_plan, AreFedAlike, CanGoOn, Stands, Position, Rest, told, DemandFault, TooDeep, HasUse, AreFollowing, IsJudgmentAt, MayJudge, IsSound, IsWaiting, Wants, Grows, spot_at, table_in, judgments_of, IsWanted, HasCome, MayWait, AllMayWait, AreWanted, StaysWanted, task_at, references_of, Maker, Making}
+use Rattle.lucid_cert.proofs.Common.{◌≡◌, ℕ, ◌+◌, ◌-◌, ◌<◌, ◌≤◌, List, [], ◌∷◌, ◌++◌, Some, None, ◌⊎◌, inl, inr, sym, ap, ◌∙◌, subst, arith, true≢false, Result, Ok, Err, OnOk, IsErrOf, Bool, true, false, IsTrue, ◌↔◌, cases_lt, PlainValue, Elements, nowhere, Context, IsKnown, KeepsKnown, context_of, IsInRange, row_at, Node, Input, Table, PlainTask, task_val, PassesOn, going, row_onward, by_then, least_of, rest_plan, AreFedAlike, CanGoOn, Stands, Position, Rest, told, DemandFault, TooDeep, HasUse, AreFollowing, IsJudgmentAt, MayJudge, IsSoundMaker, IsWaiting, Wants, Grows, spot_at, table_in, judgments_of, IsWanted, HasCome, MayWait, AllMayWait, AreWanted, StaysWanted, task_at, references_of, Maker, Making}
 use Rattle.lucid_cert_rules.specs.declared.rest.Look.{Look}
 use Rattle.lucid_cert_rules.specs.declared.rest.Rest.TheVariants as rest
 use Rattle.lucid_cert.specs.declared.making.Next.TheVariants as next
@@ -51,7 +51,7 @@ not_deep e = absurd (cc)
 
 module _ (b : Elements) (root : PlainTask) where
   -- the same wait, where more contexts are known
-  pub waits_later : (old new : Maker) → IsSound old → new.waiting.items ≡ old.waiting.items → table_in new ≡ table_in old → KeepsKnown old.tags new.tags
+  pub waits_later : (old new : Maker) → IsSoundMaker old → new.waiting.items ≡ old.waiting.items → table_in new ≡ table_in old → KeepsKnown old.tags new.tags
       → AreWanted b root old → AreWanted b root new
   waits_later old new sound is table keeps all =
       subst (λ (ws : List Making). AllMayWait (table_in new) b root new.tags ws) (sym is)
@@ -103,7 +103,7 @@ module _ (b : Elements) (root : PlainTask) where
         high (inr h) = let t : true ≡ false = sym (is.1 h) ∙ off in absurd (true≢false t)
 
   -- What passes on waits for what it goes on with, or is too deep.
-  module _ (old mid new : Maker) (sound : IsSound old) (range : IsInRange (table_in old)) (keeps : KeepsKnown old.tags mid.tags)
+  module _ (old mid new : Maker) (sound : IsSoundMaker old) (range : IsInRange (table_in old)) (keeps : KeepsKnown old.tags mid.tags)
       (table : table_in mid ≡ table_in old)
       (waiting : mid.waiting.items ≡ old.waiting.items) (w : Making) (may : MayJudge (table_in old) old.tags w.at w.space) (n : Node)
       (there : row_at (table_in old) w.at.node ≡ Some n)

@@ -1,5 +1,5 @@
 -- The values of uses, and plans that are fed by them one by one.
-use Rattle.lucid_cert.proofs.CheckCommon.{◌≡◌, ◌↔◌, ℕ, ◌<◌, ◌≤◌, true, false, List, [], ◌∷◌, map, length, Option, Some, None, get_or, refl, sym, ap, ◌∙◌, subst, arith, ◌==◌, slice_get, option_map, IfSome, Bor, same_Some, PlainValue, plain, Value, Elements, Context, root, context_of, same_tag_is_equality, Tag, Table, PlainJudgment, plain_judgment, JudgmentRow, Uses, fed, IsOfRoot, used, by_onward, contexts_of, IsSound, IsSameCheck, told, Check, context_there, zero, suc, ◌&&◌, cond, nat_lt, Decides, ltb-true, lt-ltb, le-ltb, Decides-eqb, Decides-and, option_and_then_some, cond_some, none-some}
+use Rattle.lucid_cert.proofs.CheckCommon.{◌≡◌, ◌↔◌, ℕ, ◌<◌, ◌≤◌, true, false, List, [], ◌∷◌, map, length, Option, Some, None, get_or, refl, sym, ap, ◌∙◌, subst, arith, ◌==◌, slice_get, option_map, IfSome, Bor, same_Some, PlainValue, plain, Value, Elements, Context, root, context_of, same_tag_is_equality, Tag, Table, PlainJudgment, plain_judgment, JudgmentRow, Uses, fed, IsOfRoot, used, by_onward, contexts_of, IsSoundCheck, IsSameCheck, told, Check, context_there, zero, suc, ◌&&◌, cond, nat_lt, Decides, ltb-true, lt-ltb, le-ltb, Decides-eqb, Decides-and, option_and_then_some, cond_some, none-some}
 use Rattle.std.proofs.Common.{Bool}
 use Rattle.lucid_tree.specs.Rows.{Plan, look}
 use Rattle.lucid_tags.specs.Contexts.{same_context}
@@ -162,11 +162,11 @@ module _ (T : Table) (known : List Context) (tags : List (Option Tag)) (js : Lis
     root_nowhere none = (λ e. absurd (cc), λ r. absurd (none-some root (sym (context_lacks known tags j.context none) ∙ its_context r)))
 
 -- More contexts are known: the check is the same, and sound.
-pub still_sound : (c : Check) (new : List Context) → IsSound c → KeepsKnown c.tags new → (IsOneForOne c.tags → IsOneForOne new)
-    → IsSound (record c { tags = new })
+pub still_sound : (c : Check) (new : List Context) → IsSoundCheck c → KeepsKnown c.tags new → (IsOneForOne c.tags → IsOneForOne new)
+    → IsSoundCheck (record c { tags = new })
 still_sound c new s k one = record { contexts = keeps_tags c.tags new c.contexts.items k s.contexts; once = one s.once; names = s.names }
 
-pub still_same : (c : Check) (new : List Context) → IsSound c → KeepsKnown c.tags new → IsSameCheck c (record c { tags = new })
+pub still_same : (c : Check) (new : List Context) → IsSoundCheck c → KeepsKnown c.tags new → IsSameCheck c (record c { tags = new })
 still_same c new s k = record { program = refl; judgments = refl; contexts = keeps_contexts c.tags new c.contexts.items k s.contexts }
 
 -- what passes on is told by more known contexts as by fewer

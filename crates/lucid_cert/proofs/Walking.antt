@@ -1,5 +1,5 @@
 -- The walk: from the root's judgment on, until it is made.
-use Rattle.lucid_cert.proofs.Common.{◌≡◌, ℕ, ◌-◌, [], ◌∷◌, ◌++◌, length, refl, sym, ap, ◌∙◌, inr, subst, arith, Result, Ok, Err, IsErrAnd, Elements, World, streams, PlacesDiffer, Inputs, Table, AreAskable, extends_then, inputs_apart, DemandFault, NoMemory, Why, Position, MayBe, IsCertificate, Made, AreFollowing, Goes, IsMade, IsSound, Leaves, RootStands, Settles, judgments_of, table_in, HasRead, ReadsFor, ReadsNext, Maker, Making}
+use Rattle.lucid_cert.proofs.Common.{◌≡◌, ℕ, ◌-◌, [], ◌∷◌, ◌++◌, length, refl, sym, ap, ◌∙◌, inr, subst, arith, Result, Ok, Err, IsErrAnd, Elements, World, streams, PlacesDiffer, Inputs, Table, AreAskable, extends_then, inputs_apart, DemandFault, NoMemory, Why, Position, MayBe, IsCertificate, Made, AreFollowing, Goes, IsMade, IsSoundMaker, Leaves, RootStands, Settles, judgments_of, table_in, HasRead, ReadsFor, ReadsNext, Maker, Making}
 use Rattle.lucid_ports.specs.Faults.{AsksNoneLate}
 use Rattle.lucid_cert.proofs.Going.{follow_of, root_first, root_stays}
 use Rattle.lucid_cert.proofs.Reading.{no_fault, none_late, nothing_yet, reads_on, refused, stay_read, want_of_memory}
@@ -8,7 +8,7 @@ use Rattle.lucid_cert.proofs.Reading.{no_fault, none_late, nothing_yet, reads_on
 -- asked after one.
 pub record Walks (T : Table) (old : Inputs) (before : World) (root : Position) (m : Maker) (now : Inputs) (mid : World) : Type 0 where
   pub table : table_in m ≡ T
-  pub sound : IsSound m
+  pub sound : IsSoundMaker m
   pub root_stands : RootStands root m.waiting.items (judgments_of m)
   pub follow : (b : Elements) → MayBe T now b → AreFollowing b m
   pub read : HasRead T old now before mid

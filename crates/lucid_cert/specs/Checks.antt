@@ -22,7 +22,7 @@ abbrev pub contexts_in : Check → List (Option Context)
 contexts_in c = contexts_of c.tags c.contexts.items
 
 -- the tags of its contexts are known, each context once; and the names of the program's inputs differ
-pub record IsSound (c : Check) : Type 0 where
+pub record IsSoundCheck (c : Check) : Type 0 where
   pub contexts : AreOfContexts c.tags c.contexts.items
   pub once : IsOneForOne c.tags
   pub names : AllDiffer (table_of c.program.now).inputs

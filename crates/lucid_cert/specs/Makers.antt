@@ -133,8 +133,8 @@ pub record IsSoundBy (T : Table) (known : List Context) (keys : List Key) (js : 
   pub contexts : Each (λ j. j.context < length known) js
   pub waits : Each (IsWaiting T known js) waiting
 
-abbrev pub IsSound : Maker → Type 0
-IsSound m = IsSoundBy (table_in m) m.tags m.keys.keys (judgments_of m) m.waiting.items
+abbrev pub IsSoundMaker : Maker → Type 0
+IsSoundMaker m = IsSoundBy (table_in m) m.tags m.keys.keys (judgments_of m) m.waiting.items
 
 -- The judgments follow.
 abbrev pub FollowAmong : Table → Elements → List Context → List PlainJudgment → Type 0
@@ -161,7 +161,7 @@ pub data Settles (waiting : List Making) (new : Maker) (at : Position) (space : 
 
 -- What a step for the judgment of a node in a context at a point makes of a certificate.
 pub record Goes (old new : Maker) (at : Position) (space : ℕ) : Type 0 where
-  pub sound : IsSound new
+  pub sound : IsSoundMaker new
   pub grows : Grows (table_in old) old.tags (judgments_of old) new
   pub settles : Settles old.waiting.items new at space
 
@@ -177,7 +177,7 @@ pub record IsRoot (T : Table) (at : Position) : Type 0 where
 
 -- one that waited waits no more; all else stays
 pub record Leaves (old new : Maker) : Type 0 where
-  pub sound : IsSound new
+  pub sound : IsSoundMaker new
   pub table : table_in new ≡ table_in old
   pub known : new.tags ≡ old.tags
   pub judgments : judgments_of new ≡ judgments_of old

@@ -53,11 +53,11 @@ struct NextUse {
 }
 
 impl<'a> Check<'a> {
-    ghost use Rattle.lucid_cert.specs.Checks.{judgments_of, contexts_in, HasRow, IsSound, IsSameCheck};
+    ghost use Rattle.lucid_cert.specs.Checks.{judgments_of, contexts_in, HasRow, IsSoundCheck, IsSameCheck};
 
     // The value of a use: that of an earlier judgment of this node in this context at this point.
     fn used(&self, before: usize, at: Position, space: u64, number: u64) -> Option<&'a Value>
-        requires sound { IsSound self.now }
+        requires sound { IsSoundCheck self.now }
         requires before { before ≤ length (judgments_of self.now) }
         requires there { IsOfContext self.now.tags at.context }
         ensures { option_map (λ v. plain v.now) result ≡ used (contexts_in self.now) (judgments_of self.now) before at.node (context_of self.now.tags at.context) at.time space number }
@@ -98,7 +98,7 @@ impl<'a> Check<'a> {
 
     // The value of the next use, where it is one of the look that stands next.
     fn looked_at(&self, before: usize, node: Node, context: Tag, next: NextUse) -> Option<&'a Value>
-        requires sound { IsSound self.now }
+        requires sound { IsSoundCheck self.now }
         requires before { before ≤ length (judgments_of self.now) }
         requires there { IsOfContext self.now.tags context }
         ensures earlier { IfSome result (λ _. next.number < before) }
@@ -118,7 +118,7 @@ impl<'a> Check<'a> {
 
     // What is left of the plan of a form once it is fed by the judgment's uses; nothing where one isn't that of the look that stands next.
     fn fed(&self, before: usize, node: Node, context: Tag, row: &JudgmentRow) -> Option<Rest<'a>>
-        requires sound { IsSound self.now }
+        requires sound { IsSoundCheck self.now }
         requires before { before ≤ length (judgments_of self.now) }
         requires there { IsOfContext self.now.tags context }
         requires form { IsForm node }
@@ -150,7 +150,7 @@ impl<'a> Check<'a> {
         context: Tag,
         row: &JudgmentRow,
     ) -> Result<bool, AllocError>
-        requires sound { IsSound self.now }
+        requires sound { IsSoundCheck self.now }
         requires before { before ≤ length (judgments_of self.now) }
         requires there { IsOfContext self.now.tags context }
         requires form { IsForm node }
@@ -168,7 +168,7 @@ impl<'a> Check<'a> {
 
     // Whether the judgment has one use, which has its value where its node goes on.
     fn is_passed_on(&self, before: usize, at: Option<Position>, row: &JudgmentRow) -> bool
-        requires sound { IsSound self.now }
+        requires sound { IsSoundCheck self.now }
         requires before { before ≤ length (judgments_of self.now) }
         requires there { IfSome at (λ p. IsOfContext self.now.tags p.context) }
         ensures { (b : Elements) → (result ≡ true) ↔ (by_onward b (used (contexts_in self.now) (judgments_of self.now) before) (going self.now.tags at) row.now.space row.now.uses ≡ Some (plain row.now.value)) }
@@ -190,12 +190,12 @@ impl<'a> Check<'a> {
         context: Tag,
         row: &JudgmentRow,
     ) -> Result<bool, AllocError>
-        requires sound { IsSound self.old }
+        requires sound { IsSoundCheck self.old }
         requires before { before ≤ length (judgments_of self.old) }
         requires there { IsOfContext self.old.tags context }
         requires passes { PassesOn node }
         requires in_range { NodeNames (sizes (table_of self.old.program.now)) node }
-        ensures sound { IsSound self.new }
+        ensures sound { IsSoundCheck self.new }
         ensures same { IsSameCheck self.old self.new }
         ensures follows { IfOk result (λ it. (b : Elements)
             → (it ≡ true) ↔ (by_onward b (used (contexts_in self.old) (judgments_of self.old) before)
@@ -207,7 +207,7 @@ impl<'a> Check<'a> {
 
     // The node and the context of a judgment that can follow.
     fn form(&self, row: &JudgmentRow) -> Option<(Node, Tag)>
-        requires { IsSound self.now }
+        requires { IsSoundCheck self.now }
         ensures { MatchOption result ((c : Context) → HasForm (table_of self.now.program.now) (contexts_in self.now) (plain_judgment row.now) c → ⊥)
             (λ x. HasRow (table_of self.now.program.now) self.now (plain_judgment row.now) x.0 x.1) }
     {
@@ -225,11 +225,11 @@ impl<'a> Check<'a> {
         inputs: &mut Inputs,
         number: usize,
     ) -> Result<bool, CheckFault>
-        requires sound { IsSound self.old }
+        requires sound { IsSoundCheck self.old }
         requires number { number < length (judgments_of self.old) }
         requires streams { length (streams inputs.old) ≡ length (table_of self.old.program.now).inputs }
         requires askable { AreAskable (streams inputs.old) (P.world places.old) }
-        ensures sound { IsSound self.new }
+        ensures sound { IsSoundCheck self.new }
         ensures same { IsSameCheck self.old self.new }
         ensures follows { IfOk result (λ it. (b : Elements) → MayBe (table_of self.old.program.now) inputs.new b
             → (it ≡ true) ↔ FollowsIn (table_of self.old.program.now) b (contexts_in self.old) (judgments_of self.old) number) }
@@ -255,7 +255,7 @@ impl<'a> Check<'a> {
 
     // Whether the judgment is of the root in the empty context at space 0.
     fn is_of_root(&self, number: usize) -> bool
-        requires sound { IsSound self.now }
+        requires sound { IsSoundCheck self.now }
         requires number { number < length (judgments_of self.now) }
         ensures { (result ≡ true) ↔ IsOfRoot (table_of self.now.program.now) (contexts_in self.now) (judgments_of self.now) number }
     {

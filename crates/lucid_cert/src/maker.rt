@@ -77,14 +77,14 @@ fn with_use(making: Making, number: u64) -> Result<Making, AllocError>
 }
 
 impl<'a> Maker<'a> {
-    ghost use Rattle.lucid_cert.specs.Makers.{table_in, judgments_of, spot_at, AreKeysOf, IsJudgmentAt, IsMade, MayJudge, IsForming, IsWaiting, Wants, IsSound, GivesBy, AreFollowing, Goes, IsRoot, Leaves};
+    ghost use Rattle.lucid_cert.specs.Makers.{table_in, judgments_of, spot_at, AreKeysOf, IsJudgmentAt, IsMade, MayJudge, IsForming, IsWaiting, Wants, IsSoundMaker, GivesBy, AreFollowing, Goes, IsRoot, Leaves};
     ghost use Rattle.lucid_cert.specs.Reads.{IsOwn, ReadsElement, ReadsFor, ReadsNext};
     ghost use Rattle.lucid_cert.specs.Certified.{IsCertificate};
     ghost use Rattle.lucid_cert.specs.Wanted.{task_at, IsWanted, HasCome, MayWait, AreWanted, references_of, StaysWanted};
 
     /// Nothing is made, and nothing waits.
     pub(crate) fn new(alloc: Global, program: &'a Program) -> Maker<'a>
-        ensures sound { IsSound result }
+        ensures sound { IsSoundMaker result }
         ensures table { table_in result ≡ table_of program.now }
         ensures judgments { judgments_of result ≡ [] }
         ensures waiting { result.waiting.items ≡ [] }
@@ -116,7 +116,7 @@ impl<'a> Maker<'a> {
 
     /// The innermost judgment that waits waits no more.
     pub(crate) fn innermost(&mut self) -> Option<Making>
-        requires { IsSound self.old }
+        requires { IsSoundMaker self.old }
         ensures waiting { self.old.waiting.items ≡ self.new.waiting.items ++ option_to_list result }
         ensures leaves { Leaves self.old self.new }
         ensures it { IfSome result (IsWaiting (table_in self.new) self.new.tags (judgments_of self.new)) }
@@ -127,7 +127,7 @@ impl<'a> Maker<'a> {
 
     /// The certificate whose last judgment is the root's at a time, which is made.
     pub(crate) fn finish(self, root: Position) -> Result<Why, AllocError>
-        requires sound { IsSound self }
+        requires sound { IsSoundMaker self }
         requires root { IsRoot (table_in self) root }
         requires made { IsMade (judgments_of self) root 0 }
         ensures { IfOk result (λ w. (b : Elements) → AreFollowing b self.entry → IsCertificate (table_in self.entry) b w root.time) }
@@ -188,7 +188,7 @@ impl<'a> Maker<'a> {
         uses: Vec<u64>,
         value: Value,
     ) -> Result<(), AllocError>
-        requires sound { IsSound self.old }
+        requires sound { IsSoundMaker self.old }
         requires may { MayJudge (table_in self.old) self.old.tags at space }
         requires earlier { AllByRecursion (λ u. u < length (judgments_of self.old)) uses.items }
         ensures goes { OnOk result (Goes self.old self.new at space) }
@@ -217,7 +217,7 @@ impl<'a> Maker<'a> {
 
     // The judgment waits.
     fn wait(&mut self, making: Making) -> Result<(), AllocError>
-        requires sound { IsSound self.old }
+        requires sound { IsSoundMaker self.old }
         requires waiting { IsWaiting (table_in self.old) self.old.tags (judgments_of self.old) making }
         ensures table { table_in self.new ≡ table_in self.old }
         ensures known { self.new.tags ≡ self.old.tags }
@@ -233,7 +233,7 @@ impl<'a> Maker<'a> {
 
     // The judgment waits for the value of a look, which its limit has to allow.
     fn wait_for(&mut self, making: Making, look: Look) -> Result<(), DemandFault>
-        requires sound { IsSound self.old }
+        requires sound { IsSoundMaker self.old }
         requires may { MayJudge (table_in self.old) self.old.tags making.at making.space }
         requires forming { IsForming (table_in self.old) self.old.tags (judgments_of self.old) making.at making.space making.uses.items (rests.Look look) }
         ensures goes { OnOk result (Goes self.old self.new making.at making.space) }
@@ -254,7 +254,7 @@ impl<'a> Maker<'a> {
 
     // The judgment goes on with what is left of its form's plan: it waits for a look, or it is made.
     fn go_on(&mut self, making: Making, rest: Rest) -> Result<(), DemandFault>
-        requires sound { IsSound self.old }
+        requires sound { IsSoundMaker self.old }
         requires may { MayJudge (table_in self.old) self.old.tags making.at making.space }
         requires forming { IsForming (table_in self.old) self.old.tags (judgments_of self.old) making.at making.space making.uses.items rest }
         ensures goes { OnOk result (Goes self.old self.new making.at making.space) }
@@ -278,7 +278,7 @@ impl<'a> Maker<'a> {
         stream: u32,
         spot: Spot,
     ) -> Result<(), DemandFault>
-        requires sound { IsSound self.old }
+        requires sound { IsSoundMaker self.old }
         requires may { MayJudge (table_in self.old) self.old.tags spot.at spot.space }
         requires row { row_at (table_in self.old) spot.at.node ≡ Some (Input stream) }
         requires meaning { node_at (table_in self.old) spot.at.node ≡ node_by (table_in self.old) (Input stream) }
@@ -298,7 +298,7 @@ impl<'a> Maker<'a> {
 
     // The judgment waits for what a frozen time, a reference or a call goes on with, so many references further on.
     fn wait_on(&mut self, making: Making, node: Node, references: u32) -> Result<(), DemandFault>
-        requires sound { IsSound self.old }
+        requires sound { IsSoundMaker self.old }
         requires may { MayJudge (table_in self.old) self.old.tags making.at making.space }
         requires no_uses { making.uses.items ≡ [] }
         requires row { row_at (table_in self.old) making.at.node ≡ Some node }
@@ -340,7 +340,7 @@ impl<'a> Maker<'a> {
         spot: Spot,
         limit: u32,
     ) -> Result<(), DemandFault>
-        requires sound { IsSound self.old }
+        requires sound { IsSoundMaker self.old }
         requires may { MayJudge (table_in self.old) self.old.tags spot.at spot.space }
         requires streams { length (streams inputs.old) ≡ length (table_in self.old).inputs }
         requires askable { AreAskable (streams inputs.old) (P.world places.old) }
@@ -375,7 +375,7 @@ impl<'a> Maker<'a> {
 
     // The judgment has one more use.
     fn uses(&mut self, making: Making, number: usize) -> Result<(), DemandFault>
-        requires sound { IsSound self.old }
+        requires sound { IsSoundMaker self.old }
         requires waiting { IsWaiting (table_in self.old) self.old.tags (judgments_of self.old) making }
         requires it { (at : Position) (s r : ℕ) → Wants (table_in self.old) making at s r → IsJudgmentAt (judgments_of self.old) (spot_at at s) number }
         ensures goes { OnOk result (Goes self.old self.new making.at making.space) }
@@ -420,7 +420,7 @@ impl<'a> Maker<'a> {
         inputs: &mut Inputs,
         making: Making,
     ) -> Result<(), DemandFault>
-        requires sound { IsSound self.old }
+        requires sound { IsSoundMaker self.old }
         requires waiting { IsWaiting (table_in self.old) self.old.tags (judgments_of self.old) making }
         requires streams { length (streams inputs.old) ≡ length (table_in self.old).inputs }
         requires askable { AreAskable (streams inputs.old) (P.world places.old) }

@@ -25,9 +25,9 @@ abbrev pub AllFit : WhyLines → Type 0
 AllFit l = AllByRecursion RowFits (why_rows (why_of l))
 
 -- why bytes are refused: they are no certificate's text, from the line on; or for want of memory
-abbrev pub IsRefused : (bytes : List ℕ) → WhyRefusal → Type 0
-IsRefused bytes (Form line) = IsFirstWrongLine bytes line
-IsRefused bytes NoMemory = Unit {0}
+abbrev pub IsCertificateRefused : (bytes : List ℕ) → WhyRefusal → Type 0
+IsCertificateRefused bytes (Form line) = IsFirstWrongLine bytes line
+IsCertificateRefused bytes NoMemory = Unit {0}
 
 -- the certificate is given, unless there is no memory
 abbrev pub Gives : Result Why WhyRefusal → Why → Type 0

@@ -1,7 +1,7 @@
 //! The certificate that a text is.
 ghost use Rattle.std.specs.Prelude.{◌≡◌, ◌∷◌, ◌++◌, [], IfOk, IfErr, OnOk};
 ghost use Rattle.lucid_cert_rules.specs.WhyTexts.{AreWhyLines, IsTextOf};
-ghost use Rattle.lucid_cert_rules.specs.LinesRead.{lines_in, AllFit, IsRefused, Gives};
+ghost use Rattle.lucid_cert_rules.specs.LinesRead.{lines_in, AllFit, IsCertificateRefused, Gives};
 ghost use Rattle.lucid_cert_rules.specs.declared.read.WhyRefusal.TheVariants.{NoMemory};
 ghost use Rattle.lucid_cert_rules.specs.declared.rows.Why.{Why as PlainWhy};
 
@@ -82,7 +82,7 @@ impl Lines for WhyLines {
 /// The certificate that the bytes are the text of, with one judgment at least. It asks for the form of the text alone.
 pub fn read_why(alloc: Global, bytes: &[u8]) -> Result<Why, WhyRefusal>
     ensures text { IfOk result (λ why. IsTextOf bytes.now why) }
-    ensures refused { IfErr result (λ why. IsRefused bytes.now why) }
+    ensures refused { IfErr result (λ why. IsCertificateRefused bytes.now why) }
     ensures again { (w : PlainWhy) → IsTextOf bytes.now w → Gives result w }
 {
     one_value();

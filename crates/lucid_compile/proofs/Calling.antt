@@ -4,7 +4,7 @@ use Rattle.std.proofs.lemmas.List.{append-nil}
 use Rattle.lucid_compile.specs.Static.{Static, outermost}
 use Rattle.lucid_compile.specs.Holds.{nodes_in}
 use Rattle.lucid_compile.proofs.Pairs.{pairs-join, pairs-made}
-use Rattle.lucid_compile.proofs.Indices.{map_map}
+use Rattle.std.proofs.lemmas.Simd.{map-map}
 
 call-entry : (w : Numbered) (at : ℕ) (ks : List Static) (ts : List PlainNode) (i : ℕ) (bs : List Body) (fs : List FunctionStand) (m : ℕ) → IsOpen ks 0 outermost
     → OneForOne (λ i b f. IsBody w ks ts b f) i bs fs → IsNameRow w ks ts (row_by (slice_get bs m)) (row_of_call at (slice_get fs m))
@@ -21,7 +21,7 @@ calls-held w o g h =
     let P : ℕ → NameRow → Note → Type 0 = λ i r s. IsNameRow w g.scopes (nodes_in w o) r s in
     let made : Key → NameRow = λ k. row_by (slice_get o.bodies (callee_number w k.at)) in
     let same : rows_of_calls w o.bodies o.keys.calls ≡ map (λ c. made (call_key c)) g.calls = ap (λ (k : KeyLists). map made k.calls) h.keys
-    ∙ map_map made call_key g.calls in
+    ∙ map-map made call_key g.calls in
     pairs-join P 0 o.names g.names (rows_of_calls w o.bodies o.keys.calls) (map (λ c. call_row w g.functions c.at) g.calls) h.names
     (subst (λ rs. OneForOne P (0 + length o.names) rs (map (λ c. call_row w g.functions c.at) g.calls)) (sym same)
     (pairs-made P (λ c. made (call_key c)) (λ c. call_row w g.functions c.at)
@@ -42,7 +42,7 @@ bodies-held w o g h =
     let P : ℕ → NameRow → Note → Type 0 = λ i r n. HasBody g.nodes r.kind n.kind in
     let made : Key → NameRow = λ k. row_by (slice_get o.bodies (callee_number w k.at)) in
     let same : rows_of_calls w o.bodies o.keys.calls ≡ map (λ c. made (call_key c)) g.calls = ap (λ (k : KeyLists). map made k.calls) h.keys
-    ∙ map_map made call_key g.calls in
+    ∙ map-map made call_key g.calls in
     pairs-join P 0 o.names g.names (rows_of_calls w o.bodies o.keys.calls) (map (λ c. call_row w g.functions c.at) g.calls) h.numbers.bodies
     (subst (λ rs. OneForOne P (0 + length o.names) rs (map (λ c. call_row w g.functions c.at) g.calls)) (sym same)
     (pairs-made P (λ c. made (call_key c)) (λ c. call_row w g.functions c.at)

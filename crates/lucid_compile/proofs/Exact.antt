@@ -8,7 +8,8 @@ use Rattle.lucid_compile.specs.Settled.{own, round, scope_kind, callee, scopes, 
 use Rattle.lucid_compile.specs.Noted.{IsNotedAt, IsNumber, AreNumbers, HasParts, HasBody}
 use Rattle.lucid_compile.proofs.Pairs.{pairs-both, rows-map}
 use Rattle.lucid_compile.proofs.Opening.{slice-past}
-use Rattle.lucid_compile.proofs.Indices.{map_map, index-of, call-numbers}
+use Rattle.lucid_compile.proofs.Indices.{index-of, call-numbers}
+use Rattle.std.proofs.lemmas.Simd.{map-map}
 use Rattle.lucid_compile.proofs.Spots.{eq-false}
 use Rattle.lucid_compile.proofs.Apart.{owns-differ}
 use Rattle.lucid_compile.proofs.Keying.{names-apart, sites-apart}
@@ -71,7 +72,7 @@ module _ (w : Numbered) (e : PlainTree) (t : Table) (made : IsWellMade e) (sure 
   -- scopes
 
   homes-are : map own z.scopes ≡ map (λ n. own n.home) (scopes e)
-  homes-are = ap (map own) walk.scopes ∙ map_map own (λ n. n.home) (scopes e)
+  homes-are = ap (map own) walk.scopes ∙ map-map own (λ n. n.home) (scopes e)
 
   scope-number : (s : ℕ) (k : Static) → IsOpen z.scopes s k → scope_number e k ≡ s
   scope-number s k h =
@@ -89,7 +90,7 @@ module _ (w : Numbered) (e : PlainTree) (t : Table) (made : IsWellMade e) (sure 
   scopes-exact : t.scopes ≡ map (λ n. scope_row n.home) (scopes e)
   scopes-exact =
       rows-map (IsScopeRow z.scopes) scope_row 0 t.scopes z.scopes (λ i r k _ h. scope-is i r k h) rows.scopes
-      ∙ ap (map scope_row) walk.scopes ∙ map_map scope_row (λ n. n.home) (scopes e)
+      ∙ ap (map scope_row) walk.scopes ∙ map-map scope_row (λ n. n.home) (scopes e)
 
   -- nodes and constants
 
@@ -135,7 +136,7 @@ module _ (w : Numbered) (e : PlainTree) (t : Table) (made : IsWellMade e) (sure 
   names-differ : AllDiffer (map (λ n. n.at) (names e))
   names-differ =
       let same : map (λ n. n.at) stands ≡ names_at z ++ calls_at z = map-append (λ n. n.at) z.names (map row_of_note z.calls)
-      ∙ ap (λ l. names_at z ++ l) (map_map (λ n. n.at) row_of_note z.calls
+      ∙ ap (λ l. names_at z ++ l) (map-map (λ n. n.at) row_of_note z.calls
       ∙ each-in (λ c. (row_of_note c).at) (λ c. c.at) z.calls (λ c _. row-place c.at (slice_get z.functions (callee_number w c.at)))) in
       subst AllDiffer (sym same ∙ ap (map (λ n. n.at)) stands-are) (names-apart e made)
 

@@ -3,10 +3,6 @@ use Rattle.lucid_compile.proofs.Common.{◌≡◌, ℕ, zero, suc, ◌+◌, ◌<
 use Rattle.std.proofs.lemmas.Option.{slice_get_within as index-below}
 use Rattle.lucid_compile.specs.Numbered.{mark_of, call_of}
 
-pub map_map : {A B C : Type 0} (g : B → C) (f : A → B) (xs : List A) → map g (map f xs) ≡ map (λ x. g (f x)) xs
-map_map g f [] = refl
-map_map g f (x ∷ xs) = ap (λ z. g (f x) ∷ z) (map_map g f xs)
-
 -- what is in a list stands at an index
 pub index-of : {A : Type 0} (xs : List A) (x : A) → In x xs → (i : ℕ) × (slice_get xs i ≡ Some x)
 index-of [] x i = absurd i

@@ -2,7 +2,7 @@
 use Rattle.lucid_compile.proofs.Common.{◌≡◌, ◌++◌, map, IsTrue, sym, ap, ◌∙◌, subst, arith, map-append, PlainTree, AllDiffer, places, IsWellMade, times, once-differ, differ-once, times-append, key_at, stand_key, call_key, place_key, key_of_function, KeyLists, keys_of, Log, no_log, added}
 use Rattle.lucid_scope.specs.Sites.{sites as name_sites}
 use Rattle.lucid_compile.specs.Static.{outermost}
-use Rattle.lucid_compile.proofs.Indices.{map_map}
+use Rattle.std.proofs.lemmas.Simd.{map-map}
 use Rattle.lucid_compile.proofs.Passing.{calls_pass_actuals, NoFaults, passes}
 use Rattle.lucid_compile.proofs.Logs.{names_at, calls_at, sites_at, functions_at, names-times, functions-times, sites-times, own-first}
 
@@ -18,12 +18,12 @@ module _ (e : PlainTree) (made : IsWellMade e) where
   names-differ : AllDiffer (map key_at (map stand_key z.names ++ map call_key z.calls))
   names-differ =
       let same : map key_at (map stand_key z.names ++ map call_key z.calls) ≡ names_at z ++ calls_at z =
-      map-append key_at (map stand_key z.names) (map call_key z.calls) ∙ (λ j. map_map key_at stand_key z.names j ++ map_map key_at call_key z.calls j) in
+      map-append key_at (map stand_key z.names) (map call_key z.calls) ∙ (λ j. map-map key_at stand_key z.names j ++ map-map key_at call_key z.calls j) in
       subst AllDiffer (sym same) names-apart
 
   functions-differ : AllDiffer (map key_at (map key_of_function z.functions))
   functions-differ =
-      subst AllDiffer (sym (map_map key_at key_of_function z.functions))
+      subst AllDiffer (sym (map-map key_at key_of_function z.functions))
       (once-differ (functions_at z) (λ x. omega (arith, functions-times x outermost e no_log, differ-once (places e) made.placed x)))
 
   pub sites-apart : NoFaults (name_sites outermost e) → AllDiffer (sites_at z)
@@ -32,7 +32,7 @@ module _ (e : PlainTree) (made : IsWellMade e) where
       once-differ (sites_at z) (λ x. omega (arith, sites-times x outermost e no_log h, ap (times x) (own-first e), differ-once (places e) made.placed x))
 
   places-differ : NoFaults (name_sites outermost e) → AllDiffer (map key_at (map place_key z.calls))
-  places-differ n = subst AllDiffer (sym (map_map key_at place_key z.calls)) (sites-apart n)
+  places-differ n = subst AllDiffer (sym (map-map key_at place_key z.calls)) (sites-apart n)
 
 -- keys that differ, those of each kind
 pub record DifferingKeys (l : KeyLists) : Type 0 where

@@ -310,6 +310,7 @@ pub fn compile(alloc: Global, scoped: &Scoped) -> Result<Program, AllocError>
     ensures sound { IfOk result (λ program. length (scoped_inputs scoped.now) ≤ most_inputs → IsSound (table_in program)) }
     ensures inputs { IfOk result (λ program. (table_in program).inputs ≡ scoped_inputs scoped.now) }
 {
+    // For the proof: the free names are the inputs.
     free_names_are_inputs();
     let tree = scoped.tree();
     let mut rows = Rows::make(alloc);

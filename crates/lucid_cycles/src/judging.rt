@@ -36,6 +36,7 @@ pub fn judge(alloc: Global, scoped: &Scoped) -> Result<Judgment, JudgeRefusal>
     let found = Vec::new(alloc);
     let mut edges = Edges { names, found };
     walk(&mut edges, scoped)?;
+    // For the proof: what is enough by the edges of the references is enough for the program.
     enough_is_enough();
     Ok(settle(alloc, &edges.found, names.count)?)
 }
@@ -62,6 +63,7 @@ pub fn enough(scoped: &Scoped, factor: u64, add: u64, potentials: &Numbers) -> b
         factor,
         add,
     };
+    // For the proof: what is enough by the edges of the references is enough for the program.
     enough_is_enough();
     counts_hold(names.count, potentials, factor, add) && walk(&mut ask, scoped).is_ok()
 }

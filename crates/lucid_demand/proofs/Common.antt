@@ -31,7 +31,7 @@ pub use Rattle.lucid_demand_steps.proofs.Slots.{at_another, at_it}
 pub use Rattle.lucid_demand_steps.proofs.Standing.{stands-itself}
 pub use Rattle.lucid_demand_steps.proofs.Working.{answers_over, work_over}
 pub use Rattle.lucid_demand_steps.specs.Demands.{Demand, IsEntered, demand_of, stays}
-pub use Rattle.lucid_demand_steps.specs.Engine.{AreAskable, EngineView, IsSound, MayHave, ReadsWithin, holding, known_elements}
+pub use Rattle.lucid_demand_steps.specs.Engine.{AreAskable, EngineView, IsSoundEngine, MayHave, ReadsWithin, holding, known_elements}
 pub use Rattle.lucid_demand_steps.specs.Going.{IsDemand, Owns, Waits}
 pub use Rattle.lucid_demand_steps.specs.Held.{HoldsRight, held_in}
 pub use Rattle.lucid_demand_steps.specs.Parts.{IsPart, IsReference, RefersTo, aim_of_task, moved, node_of, passed, passed_contexts, rank}

@@ -1,5 +1,5 @@
 -- What a demand promises, by what is true when its loop ends.
-use Rattle.lucid_demand.proofs.Common.{ℕ, ap, ◌∙◌, Value, plain, Elements, World, equations_of, Table, HoldsRight, EngineView, IsSound, MayHave, holding, AreAskable, ReadsWithin, demand_of, stays, engine_begins, DemandFault, Demanded, LoopEnds}
+use Rattle.lucid_demand.proofs.Common.{ℕ, ap, ◌∙◌, Value, plain, Elements, World, equations_of, Table, HoldsRight, EngineView, IsSoundEngine, MayHave, holding, AreAskable, ReadsWithin, demand_of, stays, engine_begins, DemandFault, Demanded, LoopEnds}
 use Rattle.std.proofs.Common.{◌≡◌, Some, Result, Ok, Err}
 use Rattle.std.specs.Prelude.{IfOk}
 use Rattle.lucid_equations.specs.Values.{eqval, eqhval}
@@ -12,7 +12,7 @@ if_ok : (r : Result Value DemandFault) (P Q : Value → Type 0) → IfOk r P →
 if_ok (Ok v) P Q h f = f v h
 if_ok (Err e) P Q h f = tt
 
-pub demanded : (old new : EngineView) (before after : World) (t s m : ℕ) (result : Result Value DemandFault) → IsSound old → AreAskable old.streams before
+pub demanded : (old new : EngineView) (before after : World) (t s m : ℕ) (result : Result Value DemandFault) → IsSoundEngine old → AreAskable old.streams before
     → ReadsWithin new → LoopEnds old new before after t s m result → Demanded old new before after t s m result
 demanded old new before after t s m result sound ask within l = record {
   value = if_ok result _ (λ v. (b : Elements) → MayHave new b → RootMeans new b t s (plain v)) l.answers

@@ -1,5 +1,5 @@
 -- A demand begins: the policy has its turn, and the root may be asked for.
-use Rattle.lucid_demand.proofs.Common.{ℕ, [], Option, None, sym, ap, ◌∙◌, subst, Value, root, IsKnown, context_of, space_of, Task, World, plain_task, EngineView, IsSound, AreAskable, Demand, demand_of, StandsFor, IsWanted, IsDemand, Owns, stands-itself, engine_begins, Evaluating, CanAsk, MayAskNow, AsksIn, IsTurned, Begins, DemandFault}
+use Rattle.lucid_demand.proofs.Common.{ℕ, [], Option, None, sym, ap, ◌∙◌, subst, Value, root, IsKnown, context_of, space_of, Task, World, plain_task, EngineView, IsSoundEngine, AreAskable, Demand, demand_of, StandsFor, IsWanted, IsDemand, Owns, stands-itself, engine_begins, Evaluating, CanAsk, MayAskNow, AsksIn, IsTurned, Begins, DemandFault}
 use Rattle.std.proofs.Common.{◌≡◌, ◌<◌, length}
 use Rattle.std.specs.Prelude.{Result, Ok, Err, Some}
 use Rattle.lucid_tags.specs.Contexts.{context_at}
@@ -27,7 +27,7 @@ module _ (old turned : Evaluating) (t : IsTurned old.engine turned.engine) (none
     (is_root : node ≡ turned.engine.table.root)
     (empty_known : IsKnown turned.engine.known empty) (is_empty : context_of turned.engine.known empty ≡ root) (number : number_of tag ≡ number_of empty)
     (at_space : space_of tag ≡ space)
-    (w : World) (sound : IsSound old.engine) (ask : AreAskable old.engine.streams w) where
+    (w : World) (sound : IsSoundEngine old.engine) (ask : AreAskable old.engine.streams w) where
   abbrev d : Demand
   d = demand_of old.engine w time space limit
 

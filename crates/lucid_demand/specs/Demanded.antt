@@ -6,7 +6,7 @@ use Rattle.lucid_tree.specs.Levels.{Elements}
 use Rattle.lucid_ports.specs.World.{World}
 use Rattle.lucid_ports.specs.Faults.{AsksNoneLate, Rises}
 use Rattle.lucid_demand_steps.specs.Elements.{elements_told}
-use Rattle.lucid_demand_steps.specs.Engine.{EngineView, IsSound, MayHave, RootMeans, root_val, root_hval, holding, DrawsWithin, ReadsWithin, ConsultsOverlong, VisitsNew, HoldsFew, StillHolds, HoldsNeeded, AreAskable, GoesOn, ReadsOnly, places_of}
+use Rattle.lucid_demand_steps.specs.Engine.{EngineView, IsSoundEngine, MayHave, RootMeans, root_val, root_hval, holding, DrawsWithin, ReadsWithin, ConsultsOverlong, VisitsNew, HoldsFew, StillHolds, HoldsNeeded, AreAskable, GoesOn, ReadsOnly, places_of}
 use Rattle.lucid_demand_steps.specs.Faults.{OnTooLarge, CountsReadFaults}
 use Rattle.lucid_demand_steps.specs.declared.fault.DemandFault.{DemandFault}
 use Rattle.lucid_demand_steps.specs.declared.fault.DemandFault.TheVariants.{TooDeep, ReadFault}
@@ -49,7 +49,7 @@ pub record Demanded (old new : EngineView) (before after : World) (time space li
   pub needed : IsTrue old.keeps → new.stored.lost ≡ 0 → IfOk result (λ v. (b : Elements) → MayHave new b → HoldsNeeded old new b time space)
   -- What the type keeps; each stream fits its place, whose elements are among those that there may be; nothing that was read is forgotten,
   -- and no other place changes.
-  pub sound : IsSound new
+  pub sound : IsSoundEngine new
   pub fits : AreAskable new.streams after
   pub told : MayHave new (elements_told new.table.inputs new.streams after)
   pub goes_on : GoesOn old new

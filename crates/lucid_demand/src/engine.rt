@@ -5,7 +5,7 @@ ghost use Rattle.lucid_store.specs.Entries.{count_of, cleared, empty_warehouse, 
 ghost use Rattle.lucid_search.specs.Noted.{nothing_noted};
 ghost use Rattle.lucid_inputs.specs.Inputs.{streams, most_bytes};
 ghost use Rattle.lucid_equations.specs.Programs.{table_of};
-ghost use Rattle.lucid_demand_steps.specs.Engine.{IsSound};
+ghost use Rattle.lucid_demand_steps.specs.Engine.{IsSoundEngine};
 
 use crate::DemandFault;
 use crate::turn::Evaluation;
@@ -31,7 +31,7 @@ pub struct Engine<R: Retire, S: Pick> {
 
 impl<R: Retire, S: Pick> Model for Engine<R, S> {
     ghost use Rattle.std.specs.Prelude.{◌≡◌, []};
-    ghost use Rattle.lucid_demand_steps.specs.Engine.{EngineView, IsSound};
+    ghost use Rattle.lucid_demand_steps.specs.Engine.{EngineView, IsSoundEngine};
     ghost use Rattle.lucid_demand_steps.specs.EngineCode.{engine_code};
 
     ghost Value = { EngineView };
@@ -40,7 +40,7 @@ impl<R: Retire, S: Pick> Model for Engine<R, S> {
 
     ghost view = { λ e. e.evaluation.engine };
 
-    ghost invariant = { λ e. IsSound e.evaluation.engine × (e.evaluation.rows ≡ []) };
+    ghost invariant = { λ e. IsSoundEngine e.evaluation.engine × (e.evaluation.rows ≡ []) };
 }
 
 impl<R: Retire, S: Pick> Engine<R, S> {
@@ -66,7 +66,7 @@ impl<R: Retire, S: Pick> Engine<R, S> {
           empties = R.empties policy;
           room = R.most policy;
         }) }
-        ensures sound { IfOk result (λ engine. IsSound engine) }
+        ensures sound { IfOk result (λ engine. IsSoundEngine engine) }
     {
         // Each number in the table is of a row that is there, and no two streams are read from one place.
         let _ = program.table();
@@ -123,7 +123,7 @@ impl<R: Retire, S: Pick> Engine<R, S> {
     pub fn held(&self) -> u64
         ensures value { result ≡ count_of self.now.stored }
         ensures one_for_each { IsOneForEach self.now.stored }
-        ensures sound { IsSound self.now }
+        ensures sound { IsSoundEngine self.now }
     {
         self.evaluation.warehouse.len()
     }
@@ -145,7 +145,7 @@ impl<R: Retire, S: Pick> Engine<R, S> {
     /// Drops contexts, held values and noted positions together. The elements that were read stay, and so does the count of lost values.
     pub fn clear(&mut self)
         ensures cleared { self.new ≡ record self.old { known = root ∷ []; stored = cleared self.old.stored; noted = record self.old.noted { sites = [] } } }
-        ensures sound { IsSound self.new }
+        ensures sound { IsSoundEngine self.new }
     {
         self.evaluation.clear();
     }

@@ -7,7 +7,7 @@ ghost use Rattle.lucid_store.specs.Entries.{cleared};
 ghost use Rattle.lucid_ports.specs.Faults.{AsksNoneLate};
 ghost use Rattle.lucid_ports.specs.World.{World};
 ghost use Rattle.lucid_demand_steps.specs.Tasks.{plain_row};
-ghost use Rattle.lucid_demand_steps.specs.Engine.{IsSound, AreAskable};
+ghost use Rattle.lucid_demand_steps.specs.Engine.{IsSoundEngine, AreAskable};
 ghost use Rattle.lucid_demand_steps.specs.Demands.{Demand, demand_of};
 ghost use Rattle.lucid_demand_steps.specs.Ready.{MayDecide};
 ghost use Rattle.lucid_demand_steps.specs.Justified.{Justified};
@@ -84,7 +84,7 @@ impl<R: Retire, S: Pick> Evaluation<R, S> {
         limit: u32,
     ) -> Result<Value, DemandFault>
         requires may { MayDemand self.old.engine (P.world places.old) time space limit }
-        requires sound { IsSound self.old.engine }
+        requires sound { IsSoundEngine self.old.engine }
         requires idle { self.old.rows ≡ [] }
         ensures { LoopEnds self.old.engine self.new.engine (P.world places.old) (P.world places.new) time space limit result }
     {
@@ -109,7 +109,7 @@ impl<R: Retire, S: Pick> Evaluation<R, S> {
         requires space { space < 2 ^ 63 }
         requires idle { self.old.rows ≡ [] }
         requires open { answer.old ≡ None }
-        ensures { (w : World) → IsSound self.old.engine → AreAskable self.old.engine.streams w
+        ensures { (w : World) → IsSoundEngine self.old.engine → AreAskable self.old.engine.streams w
             → Begins (demand_of self.old.engine w time space limit) self.new w (gave result answer.new) }
     {
         self.drop_values();

@@ -21,7 +21,7 @@ pub use Rattle.lucid_demand_steps.specs.Changes.{AsksRow, ChangesRow, PutsDaton,
 pub use Rattle.lucid_demand_steps.specs.Decisions.{AsksFor, ComesTo, MayAsk, MayMove, MayRead, looked_on}
 pub use Rattle.lucid_demand_steps.specs.Demands.{Answers, Demand, IsEntered, IsSeen, IsVisited, LookAnswers, demand_of, held_if, stays, table_of}
 pub use Rattle.lucid_demand_steps.specs.Elements.{elements_read}
-pub use Rattle.lucid_demand_steps.specs.Engine.{AreAskable, DrawsWithin, EngineView, ForSomeAdded, GoesOn, HoldsFew, IsSound, MayHave, ReadsOnly, holding, known_elements, places_of}
+pub use Rattle.lucid_demand_steps.specs.Engine.{AreAskable, DrawsWithin, EngineView, ForSomeAdded, GoesOn, HoldsFew, IsSoundEngine, MayHave, ReadsOnly, holding, known_elements, places_of}
 pub use Rattle.lucid_demand_steps.specs.Going.{IsDemand, Owns, WithinRoom}
 pub use Rattle.lucid_demand_steps.specs.Held.{AllNotedClosed, AllNotedRight, AreKeysKnown, Counted, DatonMeans, HoldsRight, IsClosed, NeedsHeld, NotedRight, cursor_noted, held_in, is_key_of, is_search, key_noted}
 pub use Rattle.lucid_demand_steps.specs.Measure.{total, weight}

@@ -1,5 +1,5 @@
 -- From an engine to a demand, and from a demand to what it promises.
-use Rattle.lucid_demand_steps.proofs.Common.{◌≡◌, ℕ, ◌≤◌, Option, Some, None, ◌⊎◌, inl, inr, refl, sym, ap, ◌∙◌, subst, true≢false, arith, le_refl, IsTrue, IsSome, is_some, IfSome, length-map, same_Some, none-some, value_there, PlainValue, AllDiffer, Elements, nothing_held, World, Contents, Daton, IsNeeded, equations_of, IsInRange, Table, Holding, given, IsDefined, HoldsRight, IsClosed, AllNotedRight, AllNotedClosed, EngineView, IsSound, known_elements, holding, MayHave, DrawsWithin, AreAskable, places_of, GoesOn, stays, held_if, demand_of, Answers, StockFacts, IsDemand, Owns}
+use Rattle.lucid_demand_steps.proofs.Common.{◌≡◌, ℕ, ◌≤◌, Option, Some, None, ◌⊎◌, inl, inr, refl, sym, ap, ◌∙◌, subst, true≢false, arith, le_refl, IsTrue, IsSome, is_some, IfSome, length-map, same_Some, none-some, value_there, PlainValue, AllDiffer, Elements, nothing_held, World, Contents, Daton, IsNeeded, equations_of, IsInRange, Table, Holding, given, IsDefined, HoldsRight, IsClosed, AllNotedRight, AllNotedClosed, EngineView, IsSoundEngine, known_elements, holding, MayHave, DrawsWithin, AreAskable, places_of, GoesOn, stays, held_if, demand_of, Answers, StockFacts, IsDemand, Owns}
 use Rattle.std.proofs.Common.{Bool, true, false, length}
 use Rattle.lucid_tags.specs.Contexts.{root}
 use Rattle.lucid_equations.specs.Laws.{HoldsMore}
@@ -24,7 +24,7 @@ drawn_at_once None P n m e = tt
 drawn_at_once (Some c) P n m e = inl (omega (arith, e))
 
 -- An engine that may be asked is ready for a demand.
-pub engine_begins : (e : EngineView) (w : World) (t s m : ℕ) → IsSound e → AreAskable e.streams w
+pub engine_begins : (e : EngineView) (w : World) (t s m : ℕ) → IsSoundEngine e → AreAskable e.streams w
     → IsDemand (demand_of e w t s m) × Owns (demand_of e w t s m) e w
 engine_begins e w t s m sound ask = (demand, owns)
   where
@@ -56,7 +56,7 @@ engine_begins e w t s m sound ask = (demand, owns)
     }
 
 -- What a demand leaves is an engine.
-pub engine_ends : (old new : EngineView) (v w : World) (t s m : ℕ) → IsDemand (demand_of old v t s m) → Owns (demand_of old v t s m) new w → IsSound new
+pub engine_ends : (old new : EngineView) (v w : World) (t s m : ℕ) → IsDemand (demand_of old v t s m) → Owns (demand_of old v t s m) new w → IsSoundEngine new
 engine_ends old new v w t s m demand owns = record {
   right = subst (λ T. HoldsRight (equations_of T) (known_elements new) (holding new)) same facts.right;
   keys = owns.keys;

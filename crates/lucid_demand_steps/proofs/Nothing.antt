@@ -1,5 +1,5 @@
 -- An engine that holds nothing and has noted nothing.
-use Rattle.lucid_demand_steps.proofs.Common.{◌≡◌, ℕ, [], Option, Some, None, sym, ap, ◌∙◌, true≢false, IsSome, is_some, lookup, plain, AllDiffer, IsOneForOne, Tag, entry_at, same_key, is_key_of, Noted, number_at, IsInRange, Daton, EngineView, IsSound, holding, places_of}
+use Rattle.lucid_demand_steps.proofs.Common.{◌≡◌, ℕ, [], Option, Some, None, sym, ap, ◌∙◌, true≢false, IsSome, is_some, lookup, plain, AllDiffer, IsOneForOne, Tag, entry_at, same_key, is_key_of, Noted, number_at, IsInRange, Daton, EngineView, IsSoundEngine, holding, places_of}
 use Rattle.std.proofs.Common.{length}
 use Rattle.std.specs.Prelude.{option_map}
 use Rattle.lucid_search.specs.Noted.{number_of_site}
@@ -22,7 +22,7 @@ not_some o e h = absurd (true≢false (sym h ∙ ap is_some e))
 pub nothing_is_sound :
     (e : EngineView) → e.stored.entries ≡ [] → e.noted.sites ≡ [] → IsOneForOne e.known → length e.streams ≡ length e.table.inputs
     → AllDiffer (places_of e.streams) → IsInRange e.table
-    → AllDiffer e.table.inputs → IsSound e
+    → AllDiffer e.table.inputs → IsSoundEngine e
 nothing_is_sound e empty none contexts streams places in_range names = record {
   right = λ d s v h. not_none (holding e d s) v (holds_none e empty d s) h;
   keys = λ k h. not_some (entry_at e.stored k) (ap (lookup (same_key k)) empty) h;

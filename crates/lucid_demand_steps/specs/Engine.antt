@@ -50,7 +50,7 @@ places_of streams = map (λ s. s.place) streams
 -- noted position is counted; under a policy that keeps, and with nothing lost, what held datons and noted positions need is held;
 -- each known tag stands for one context and one space; the program's numbers are in range, its inputs' names differ, and so do the
 -- places of the streams, one for each input.
-pub record IsSound (e : EngineView) : Type 0 where
+pub record IsSoundEngine (e : EngineView) : Type 0 where
   pub right : HoldsRight (equations_of e.table) (known_elements e) (holding e)
   pub keys : AreKeysKnown e.known e.stored
   pub noted : AllNotedRight e.table (known_elements e) e.known e.noted

@@ -14,7 +14,7 @@ use Rattle.lucid_tree.specs.Tree.{PlainTree}
 use Rattle.lucid_parse.specs.Grammar.{PlacedTerminal, Spells}
 use Rattle.lucid_parse.specs.Terminals.{Terminals, terminals_none, terminals_next}
 use Rattle.lucid_parse.specs.Verdict.{Begins, IsFault}
-use Rattle.lucid_parse.specs.Spelled.{SpellsTree, IsRefused}
+use Rattle.lucid_parse.specs.Spelled.{SpellsTree, IsSourceRefused}
 use Rattle.lucid_parse.specs.declared.refusal.ParseRefusal.TheVariants as refusal
 use Rattle.lucid_explain_places.specs.Standing.{GoesOn, IsBegun}
 
@@ -78,7 +78,7 @@ nested_goes_on source ts ws e scanned named spelt =
     record { tokens = ts; terminals = ws; scanned = scanned; stand_for = named; begins = spelled_begins ws e spelt }
 
 -- A fault stands within the source.
-pub fault_within : (source : List ℕ) (ts : List Token) (at : ℕ) → TokensAreInOrder → Tokens source 0 ts → IsRefused source ts (refusal.Syntax at)
+pub fault_within : (source : List ℕ) (ts : List Token) (at : ℕ) → TokensAreInOrder → Tokens source 0 ts → IsSourceRefused source ts (refusal.Syntax at)
     → at ≤ length source
 fault_within source ts at law scanned r =
     let fault : IsFault r.0 (length source) at = r.2.1 in
@@ -96,12 +96,12 @@ fault_within source ts at law scanned r =
 -- what the parser's answer says, by its refusal
 pub answered : (source : List ℕ) (ts : List Token) (r : Result PlainTree ParseRefusal) (o : Option ParseRefusal) → Tokens source 0 ts
     → IfOk r (λ e. SpellsTree source ts e)
-    → IfErr r (λ why. IsRefused source ts why) → o ≡ result_err r → MatchOption o (GoesOn source) (λ why. IsRefused source ts why)
+    → IfErr r (λ why. IsSourceRefused source ts why) → o ≡ result_err r → MatchOption o (GoesOn source) (λ why. IsSourceRefused source ts why)
 answered source ts (Ok e) o scanned spelt refused is = let P : Option ParseRefusal
-    → Type 0 = λ p. MatchOption p (GoesOn source) (λ why. IsRefused source ts why) in
+    → Type 0 = λ p. MatchOption p (GoesOn source) (λ why. IsSourceRefused source ts why) in
     subst P (sym is) (gone_on source ts e scanned spelt)
 answered source ts (Err why) o scanned spelt refused is = let P : Option ParseRefusal
-    → Type 0 = λ p. MatchOption p (GoesOn source) (λ why. IsRefused source ts why) in
+    → Type 0 = λ p. MatchOption p (GoesOn source) (λ why. IsSourceRefused source ts why) in
     subst P (sym is) refused
 
 -- What a program begins with is begun so too.

@@ -3,7 +3,7 @@ ghost use Rattle.std.specs.Prelude.{◌≡◌, ℕ, ◌-◌, ◌≤◌, List, �
 ghost use Rattle.std.specs.Option.{option_to_list};
 ghost use Rattle.lucid_scan.specs.Refusals.{most_source_bytes};
 ghost use Rattle.lucid_scan.specs.Tokens.{Tokens};
-ghost use Rattle.lucid_parse.specs.Spelled.{IsRefused};
+ghost use Rattle.lucid_parse.specs.Spelled.{IsSourceRefused};
 ghost use Rattle.lucid_explain_places.specs.declared.candidates.Candidate.{Candidate as Told};
 ghost use Rattle.lucid_explain_places.specs.Standing.{GoesOn, IsBegun, MayStand, tried, text_and_told, AreFirst, AreStanding};
 
@@ -94,7 +94,7 @@ const CANDIDATES: [Candidate; 16] = [
 fn refusal_of(alloc: Global, bytes: &[u8], tokens: &[Token]) -> Option<ParseRefusal>
     requires short { length bytes.now ≤ most_source_bytes }
     requires scanned { Tokens bytes.now 0 tokens.now }
-    ensures { MatchOption result (GoesOn bytes.now) (λ refusal. IsRefused bytes.now tokens.now refusal) }
+    ensures { MatchOption result (GoesOn bytes.now) (λ refusal. IsSourceRefused bytes.now tokens.now refusal) }
 {
     parse(alloc, bytes, tokens).err()
 }

@@ -8,7 +8,7 @@ use Rattle.lucid_scan.specs.Refusals.{Refuses}
 use Rattle.lucid_scan.specs.Laws.{TokensAreUnique, TokensAreNotRefused, RefusalIsUnique}
 use Rattle.lucid_parse.specs.declared.refusal.ParseRefusal.{ParseRefusal}
 use Rattle.lucid_parse.specs.declared.refusal.ParseRefusal.TheVariants as parsed
-use Rattle.lucid_parse.specs.Spelled.{SpellsTree, IsRefused}
+use Rattle.lucid_parse.specs.Spelled.{SpellsTree, IsSourceRefused}
 use Rattle.lucid_parse.specs.Laws.{TokensSpellOneTree, SpelledTreesAreWellMade, TokensHaveOneRefusal, SpelledTokensAreNotRefused}
 use Rattle.lucid_tree.specs.Tree.{PlainTree}
 use Rattle.lucid_scope.specs.declared.refusal.ScopeRefusal.{ScopeRefusal}
@@ -46,7 +46,7 @@ module _ (laws : Laws) (source : List ℕ) where
   no_scan : (ts : List Token) (why : ScanRefusal) → HasTokens source ts → why ≢ scanned.NoMemory → Refuses source why → ⊥
   no_scan ts why h known r = known (laws.not_refused source ts why h.listed h.short r)
 
-  no_parse : (ts : List Token) (why : ParseRefusal) (e : PlainTree) → HasTokens source ts → why ≢ parsed.NoMemory → IsRefused source ts why → IsSpelt source e
+  no_parse : (ts : List Token) (why : ParseRefusal) (e : PlainTree) → HasTokens source ts → why ≢ parsed.NoMemory → IsSourceRefused source ts why → IsSpelt source e
       → ⊥
   no_parse ts why e h known r s =
       let P : List Token → Type 0 = λ z. SpellsTree source z e in
@@ -62,8 +62,8 @@ module _ (laws : Laws) (source : List ℕ) where
   -- the fault by what refuses the source
   pub data Cause (fault : Fault) : Type 0 where
     of_scan : (why : ScanRefusal) → why ≢ scanned.NoMemory → Refuses source why → Some fault ≡ scan_fault why → Cause fault
-    of_syntax : (ts : List Token) (at : ℕ) → HasTokens source ts → IsRefused source ts (parsed.Syntax at) → fault ≡ faults.Syntax at → Cause fault
-    of_depth : (ts : List Token) (at : ℕ) → HasTokens source ts → IsRefused source ts (parsed.TooNested at) → fault ≡ faults.TooNested at → Cause fault
+    of_syntax : (ts : List Token) (at : ℕ) → HasTokens source ts → IsSourceRefused source ts (parsed.Syntax at) → fault ≡ faults.Syntax at → Cause fault
+    of_depth : (ts : List Token) (at : ℕ) → HasTokens source ts → IsSourceRefused source ts (parsed.TooNested at) → fault ≡ faults.TooNested at → Cause fault
     of_names : (e : PlainTree) (why : ScopeRefusal) → IsSpelt source e → IsLeastFault e why → Some fault ≡ names_fault why → Cause fault
 
   pub cause : (file : List ℕ) (fault : Fault) (text : List ℕ) → Explains file source fault text → Cause fault
@@ -84,11 +84,11 @@ module _ (laws : Laws) (source : List ℕ) where
   explained_are_refused file fault text (by_depth ts at h r l t) = by_parser ts (parsed.TooNested at) (nested_known at) h r
   explained_are_refused file fault text (by_fault e why s f l t) = by_names e why s f
 
-  one_refusal : (ts us : List Token) (why other : ParseRefusal) → HasTokens source ts → HasTokens source us → IsRefused source ts why
-      → IsRefused source us other
+  one_refusal : (ts us : List Token) (why other : ParseRefusal) → HasTokens source ts → HasTokens source us → IsSourceRefused source ts why
+      → IsSourceRefused source us other
       → why ≢ parsed.NoMemory → other ≢ parsed.NoMemory → why ≡ other
   one_refusal ts us why other h i r s known too =
-      let P : List Token → Type 0 = λ z. IsRefused source z why in
+      let P : List Token → Type 0 = λ z. IsSourceRefused source z why in
       laws.refusals source us why other (subst P (same_tokens ts us h i) r) s known too
 
   one_cause : (fault other : Fault) → Cause fault → Cause other → fault ≡ other

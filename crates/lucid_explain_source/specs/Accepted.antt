@@ -7,7 +7,7 @@ use Rattle.lucid_scan.specs.Tokens.{Tokens}
 use Rattle.lucid_scan.specs.Refusals.{Refuses, most_source_bytes}
 use Rattle.lucid_parse.specs.declared.refusal.ParseRefusal.{ParseRefusal}
 use Rattle.lucid_parse.specs.declared.refusal.ParseRefusal.TheVariants as parsed
-use Rattle.lucid_parse.specs.Spelled.{SpellsTree, IsRefused}
+use Rattle.lucid_parse.specs.Spelled.{SpellsTree, IsSourceRefused}
 use Rattle.lucid_tree.specs.Tree.{PlainTree}
 use Rattle.lucid_tree.specs.WellMade.{depth, most_tree_depth}
 use Rattle.lucid_scope.specs.declared.refusal.ScopeRefusal.{ScopeRefusal}
@@ -37,5 +37,5 @@ IsAccepted source = (tree : PlainTree) × IsProgram source tree
 -- The source is refused, and not for want of memory: by the scanner, or its tokens by the parser, or a name of its tree is at fault.
 pub data IsTurnedDown (source : List ℕ) : Type 0 where
   by_scanner : (why : ScanRefusal) → why ≢ scanned.NoMemory → Refuses source why → IsTurnedDown source
-  by_parser : (tokens : List Token) (why : ParseRefusal) → why ≢ parsed.NoMemory → HasTokens source tokens → IsRefused source tokens why → IsTurnedDown source
+  by_parser : (tokens : List Token) (why : ParseRefusal) → why ≢ parsed.NoMemory → HasTokens source tokens → IsSourceRefused source tokens why → IsTurnedDown source
   by_names : (tree : PlainTree) (why : ScopeRefusal) → IsSpelt source tree → IsLeastFault tree why → IsTurnedDown source

@@ -5,7 +5,7 @@ use Rattle.lucid_scan.specs.declared.refusal.ScanRefusal.{ScanRefusal}
 use Rattle.lucid_scan.specs.declared.refusal.ScanRefusal.TheVariants as scanned
 use Rattle.lucid_scan.specs.Refusals.{Refuses}
 use Rattle.lucid_parse.specs.declared.refusal.ParseRefusal.TheVariants as refusal
-use Rattle.lucid_parse.specs.Spelled.{IsRefused}
+use Rattle.lucid_parse.specs.Spelled.{IsSourceRefused}
 use Rattle.lucid_tree.specs.Tree.{PlainTree}
 use Rattle.lucid_scope.specs.declared.refusal.ScopeRefusal.{ScopeRefusal}
 use Rattle.lucid_scope.specs.Bindings.{IsLeastFault}
@@ -33,9 +33,9 @@ depth_text file source at = place_text file source (min (length source) at) ++ n
 pub data Explains (file source : List ℕ) (fault : Fault) (text : List ℕ) : Type 0 where
   by_scan : (why : ScanRefusal) → why ≢ scanned.NoMemory → Refuses source why → Some fault ≡ scan_fault why → text ≡ scan_text file source why
       → Explains file source fault text
-  by_syntax : (tokens : List Token) (at : ℕ) (those : List Candidate) → HasTokens source tokens → IsRefused source tokens (refusal.Syntax at) → AreStanding source at those
+  by_syntax : (tokens : List Token) (at : ℕ) (those : List Candidate) → HasTokens source tokens → IsSourceRefused source tokens (refusal.Syntax at) → AreStanding source at those
       → fault ≡ faults.Syntax at → text ≡ syntax_text file source at (around_at source tokens at) those → Explains file source fault text
-  by_depth : (tokens : List Token) (at : ℕ) → HasTokens source tokens → IsRefused source tokens (refusal.TooNested at)
+  by_depth : (tokens : List Token) (at : ℕ) → HasTokens source tokens → IsSourceRefused source tokens (refusal.TooNested at)
       → fault ≡ faults.TooNested at → text ≡ depth_text file source at → Explains file source fault text
   by_names : (tree : PlainTree) (why : ScopeRefusal) → IsSpelt source tree → IsLeastFault tree why
       → Some fault ≡ names_fault why → text ≡ names_text file source tree why → Explains file source fault text

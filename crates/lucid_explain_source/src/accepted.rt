@@ -2,7 +2,7 @@
 ghost use Rattle.std.specs.Prelude.{◌≡◌, ◌≢◌, ◌≤◌, length, IfOk, IfSome, IfNone, OnSome};
 ghost use Rattle.lucid_scan.specs.Refusals.{Refuses, most_source_bytes};
 ghost use Rattle.lucid_scan.specs.Tokens.{Tokens};
-ghost use Rattle.lucid_parse.specs.Spelled.{IsRefused};
+ghost use Rattle.lucid_parse.specs.Spelled.{IsSourceRefused};
 ghost use Rattle.lucid_scope.specs.Bindings.{IsLeastFault};
 ghost use Rattle.lucid_scope.specs.Scoped.{scoped_tree, scoped_inputs};
 ghost use Rattle.lucid_tree.specs.WellMade.{IsWellMade, places};
@@ -26,7 +26,7 @@ fn parser_turns_down(source: &[u8], tokens: &[Token], refusal: &ParseRefusal)
     requires known { refusal.now ≢ ParseRefusal.NoMemory }
     requires short { length source.now ≤ most_source_bytes }
     requires scanned { Tokens source.now 0 tokens.now }
-    requires refused { IsRefused source.now tokens.now refusal.now }
+    requires refused { IsSourceRefused source.now tokens.now refusal.now }
     ensures { IsTurnedDown source.now }
 {}
 

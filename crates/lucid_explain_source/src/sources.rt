@@ -2,7 +2,7 @@
 ghost use Rattle.std.specs.Prelude.{◌≡◌, ◌≢◌, ◌≤◌, ◌++◌, length, IfOk, IfSome, IfNone, OnOk};
 ghost use Rattle.lucid_scan.specs.Refusals.{Refuses, most_source_bytes};
 ghost use Rattle.lucid_scan.specs.Tokens.{Tokens};
-ghost use Rattle.lucid_parse.specs.Spelled.{IsRefused};
+ghost use Rattle.lucid_parse.specs.Spelled.{IsSourceRefused};
 ghost use Rattle.lucid_scope.specs.Bindings.{IsLeastFault};
 ghost use Rattle.lucid_tree.specs.WellMade.{IsWellMade};
 ghost use Rattle.lucid_explain_source.specs.Accepted.{IsSpelt, IsAccepted};
@@ -63,7 +63,7 @@ fn said_of_syntax(
 ) -> Result<Explanation, AllocError>
     requires short { length source.now ≤ most_source_bytes }
     requires scanned { Tokens source.now 0 tokens.now }
-    requires refused { IsRefused source.now tokens.now (ParseRefusal.Syntax at) }
+    requires refused { IsSourceRefused source.now tokens.now (ParseRefusal.Syntax at) }
     ensures { IfOk result (λ said. Explains file.now source.now said.fault said.text.items) }
 {
     tokens_are_in_order();
@@ -93,7 +93,7 @@ fn said_of_depth(
 ) -> Result<Explanation, AllocError>
     requires short { length source.now ≤ most_source_bytes }
     requires scanned { Tokens source.now 0 tokens.now }
-    requires refused { IsRefused source.now tokens.now (ParseRefusal.TooNested at) }
+    requires refused { IsSourceRefused source.now tokens.now (ParseRefusal.TooNested at) }
     ensures { IfOk result (λ said. Explains file.now source.now said.fault said.text.items) }
 {
     let mut text = Vec::new(alloc);
@@ -114,7 +114,7 @@ fn said_of_parse(
 ) -> Result<Explanation, AllocError>
     requires short { length source.now ≤ most_source_bytes }
     requires scanned { Tokens source.now 0 tokens.now }
-    requires refused { IsRefused source.now tokens.now refusal.now }
+    requires refused { IsSourceRefused source.now tokens.now refusal.now }
     ensures { IfOk result (λ said. Explains file.now source.now said.fault said.text.items) }
 {
     match refusal {

@@ -22,9 +22,9 @@ pub record AreKept (l : FlatLines) : Type 0 where
   pub none : l.has_first ≡ false → rows_in l.rows ≡ []
 
 -- why bytes are refused: they are no table's text, from the line on; or for want of memory
-abbrev pub IsRefused : (bytes : List ℕ) → FlatRefusal → Type 0
-IsRefused bytes (Form line) = IsFirstWrongLine bytes line
-IsRefused bytes NoMemory = Unit {0}
+abbrev pub IsTextRefused : (bytes : List ℕ) → FlatRefusal → Type 0
+IsTextRefused bytes (Form line) = IsFirstWrongLine bytes line
+IsTextRefused bytes NoMemory = Unit {0}
 
 -- the table is given, unless there is no memory
 abbrev pub Gives : Result Table FlatRefusal → Table → Type 0

@@ -77,6 +77,6 @@ pub data IsFirstWrongRow (t : Table) : BuildRefusal → Type 0 where
   wrong_root : RowsAreRight t → (RootStands t → ⊥) → IsFirstWrongRow t Root
 
 -- Why a table is refused: its first wrong row, where it isn't sound, or want of memory.
-abbrev pub IsRefused : Table → BuildRefusal → Type 0
-IsRefused t NoMemory = Unit {0}
-IsRefused t why = IsFirstWrongRow t why × (IsSound t → ⊥)
+abbrev pub IsTableRefused : Table → BuildRefusal → Type 0
+IsTableRefused t NoMemory = Unit {0}
+IsTableRefused t why = IsFirstWrongRow t why × (IsSound t → ⊥)

@@ -2,7 +2,7 @@
 ghost use Rattle.std.specs.Prelude.{◌≡◌, ◌≤◌, ◌↔◌, length, true, IfOk, IfErr};
 ghost use Rattle.lucid_equations.specs.Programs.{table_of};
 ghost use Rattle.lucid_equations.specs.Sound.{StandsIn, IsSound, most_inputs};
-ghost use Rattle.lucid_flat.specs.WrongRows.{RowsAreRight, IsRefused};
+ghost use Rattle.lucid_flat.specs.WrongRows.{RowsAreRight, IsTableRefused};
 ghost use Rattle.lucid_flat.specs.declared.program.BuildRefusal.TheVariants.{NoMemory};
 
 use crate::names::{first_wrong_name, stands_in};
@@ -17,19 +17,19 @@ use thiserror::Error;
 #[derive(Debug, Drop, Error)]
 pub enum BuildRefusal {
     /// A scope's row is wrong, or there are no scopes.
-    #[error("scope {at} is wrong")]
+    #[error("flat scope {at} is wrong")]
     Scope { at: u32 },
     /// A node's row is wrong.
-    #[error("node {at} is wrong")]
+    #[error("flat node {at} is wrong")]
     Node { at: u32 },
     /// A name's row is wrong.
-    #[error("name {at} is wrong")]
+    #[error("flat name {at} is wrong")]
     Name { at: u32 },
     /// A call place's row is wrong.
-    #[error("place {at} is wrong")]
+    #[error("flat place {at} is wrong")]
     Place { at: u32 },
     /// The root doesn't stand in scope 0, or inputs have one name, or there are too many of them.
-    #[error("the root is wrong")]
+    #[error("flat root is wrong")]
     Root,
     /// Want of memory.
     #[error("no memory")]
@@ -49,7 +49,7 @@ const MOST_INPUTS: usize = 1_048_576;
 // The first wrong row but the root's.
 fn check_rows(alloc: Global, table: &Table) -> Result<(), BuildRefusal>
     ensures right { IfOk result (λ _. RowsAreRight table.now) }
-    ensures refused { IfErr result (IsRefused table.now) }
+    ensures refused { IfErr result (IsTableRefused table.now) }
 {
     let scopes = table.scopes.items();
     if scopes.is_empty() {
@@ -82,7 +82,7 @@ fn is_root_right(table: &Table) -> bool
 pub fn build(alloc: Global, table: Table) -> Result<Program, BuildRefusal>
     ensures program { IfOk result (λ program. table_of program ≡ table) }
     ensures sound { IfOk result (λ _. IsSound table) }
-    ensures refused { IfErr result (IsRefused table) }
+    ensures refused { IfErr result (IsTableRefused table) }
 {
     check_rows(alloc, &table)?;
     if !is_root_right(&table) {

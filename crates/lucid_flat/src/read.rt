@@ -4,7 +4,7 @@ ghost use Rattle.std.specs.Bool.{MatchBool};
 ghost use Rattle.lucid_texts.specs.TextLines.{CannotGoOn};
 ghost use Rattle.lucid_flat.specs.FlatTables.{AreTableLines, HasOneRoot, IsTextOf};
 ghost use Rattle.lucid_flat.specs.Gathered.{rows_in, AreBegun};
-ghost use Rattle.lucid_flat.specs.LinesRead.{lines_of_rows, lines_in, AreKept, IsRefused, Gives};
+ghost use Rattle.lucid_flat.specs.LinesRead.{lines_of_rows, lines_in, AreKept, IsTextRefused, Gives};
 ghost use Rattle.lucid_flat.specs.declared.read.FlatRefusal.TheVariants.{NoMemory};
 
 use crate::gather::Rows;
@@ -47,6 +47,7 @@ fn add_row(alloc: Global, rows: &mut Rows, line: &[u8]) -> Result<bool, AllocErr
     requires { AreBegun rows.old }
     ensures { IfOk result (λ added. MatchBool added (AreBegun rows.new × (lines_of_rows (rows_in rows.new) ≡ lines_of_rows (rows_in rows.old) ++ line.now ∷ [])) (CannotGoOn AreTableLines (lines_of_rows (rows_in rows.old) ++ line.now ∷ []))) }
 {
+    // For the proof: no bytes are the texts of two values.
     one_value();
     match read_row(alloc, line)? {
         Some(row) => rows.add(row),
@@ -72,6 +73,7 @@ impl Lines for FlatLines {
     }
 
     fn is_whole(&self) -> bool {
+        // For the proof: no bytes are the texts of two values.
         one_value();
         self.has_first && self.rows.is_whole()
     }
@@ -81,9 +83,10 @@ impl Lines for FlatLines {
 pub fn read_flat(alloc: Global, bytes: &[u8]) -> Result<Table, FlatRefusal>
     ensures text { IfOk result (λ table. IsTextOf bytes.now table) }
     ensures root { IfOk result (λ table. HasOneRoot table) }
-    ensures refused { IfErr result (λ why. IsRefused bytes.now why) }
+    ensures refused { IfErr result (λ why. IsTextRefused bytes.now why) }
     ensures again { (t : Table) → IsTextOf bytes.now t → Gives result t }
 {
+    // For the proof: no bytes are the texts of two values, and no bytes are the text of two tables.
     one_value();
     one_table();
     let rows = Rows::make(alloc)?;

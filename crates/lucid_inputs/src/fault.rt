@@ -11,13 +11,13 @@ use thiserror::Error;
 #[derive(Clone, Copy, Debug, PartialEq, Eq, Error)]
 pub enum InputFault {
     /// A read failed.
-    #[error("the input could not be read")]
+    #[error("read fault")]
     ReadFault,
     /// The element lies past the bytes that may be read of this stream.
-    #[error("input {stream} is too large")]
+    #[error("input {stream} too large")]
     TooLarge { stream: u32 },
     /// There was no memory.
-    #[error("out of memory")]
+    #[error("no memory")]
     NoMemory,
 }
 

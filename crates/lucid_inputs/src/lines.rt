@@ -105,6 +105,7 @@ fn line_value(alloc: Global, line: &[u8]) -> Result<Value, AllocError>
     requires { line_ends line.now ≡ 0 }
     ensures { IfOk result (λ v. plain v ≡ line_value_of line.now) }
 {
+    // For the proof: the bytes have one element at each time.
     one_element();
     if line.len() > LONGEST_LINE {
         return Ok(Value::Fault);

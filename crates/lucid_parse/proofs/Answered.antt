@@ -3,17 +3,17 @@ use Rattle.lucid_parse.proofs.Common.{◌≡◌, ℕ, List, length, sym, subst, 
 use Rattle.lucid_parse.specs.declared.refusal.ParseRefusal.{ParseRefusal}
 use Rattle.lucid_parse.specs.declared.refusal.ParseRefusal.TheVariants as refusal
 use Rattle.lucid_parse.specs.Refused.{AreRefused}
-use Rattle.lucid_parse.specs.Spelled.{IsRefused}
+use Rattle.lucid_parse.specs.Spelled.{IsSourceRefused}
 use Rattle.lucid_parse.specs.Laws.{TokensSpellOneTree}
 use Rattle.lucid_parse.proofs.Built.{one_tree}
 
 -- for want of memory any tokens may be refused
-pub refused_memory : (source : List ℕ) (tokens : List Token) (why : ParseRefusal) → why ≡ refusal.NoMemory → IsRefused source tokens why
-refused_memory source tokens why is = subst (IsRefused source tokens) (sym is) tt
+pub refused_memory : (source : List ℕ) (tokens : List Token) (why : ParseRefusal) → why ≡ refusal.NoMemory → IsSourceRefused source tokens why
+refused_memory source tokens why is = subst (IsSourceRefused source tokens) (sym is) tt
 
 refused_as : (source : List ℕ) (tokens : List Token) (terminals : List PlacedTerminal) (why : ParseRefusal) → Terminals source tokens terminals
     → AreRefused why terminals (length source)
-    → IsRefused source tokens why
+    → IsSourceRefused source tokens why
 refused_as source tokens terminals (refusal.Syntax at) stand refused = (terminals, stand, refused)
 refused_as source tokens terminals (refusal.TooNested at) stand refused = (terminals, stand, refused)
 refused_as source tokens terminals refusal.NoMemory stand refused = tt
@@ -24,7 +24,7 @@ module _ (source : List ℕ) (tokens : List Token) (terminals : List PlacedTermi
   spelled (Err why) h = tt
 
   pub refused : (r : Result PlainTree ParseRefusal) (end : ℕ) → end ≡ length source → IfErr r (λ why. AreRefused why terminals end)
-      → IfErr r (λ why. IsRefused source tokens why)
+      → IfErr r (λ why. IsSourceRefused source tokens why)
   refused (Ok tree) end is h = tt
   refused (Err why) end is h = refused_as source tokens terminals why stand (subst (AreRefused why terminals) is h)
 

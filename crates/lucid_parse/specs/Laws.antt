@@ -14,7 +14,7 @@ use Rattle.lucid_parse.specs.declared.refusal.ParseRefusal.TheVariants as refusa
 use Rattle.lucid_parse.specs.Grammar.{PlacedTerminal, Spells}
 use Rattle.lucid_parse.specs.Terminals.{Terminals}
 use Rattle.lucid_parse.specs.Verdict.{IsFault}
-use Rattle.lucid_parse.specs.Spelled.{SpellsTree, IsRefused}
+use Rattle.lucid_parse.specs.Spelled.{SpellsTree, IsSourceRefused}
 
 -- Terminals spell at most one tree.
 abbrev pub TerminalsSpellOneTree : Type 0
@@ -46,13 +46,13 @@ SpelledPlacesAreFew =
 -- Want of memory apart, tokens have at most one refusal.
 abbrev pub TokensHaveOneRefusal : Type 0
 TokensHaveOneRefusal =
-    (source : List ℕ) (tokens : List Token) (why other : ParseRefusal) → IsRefused source tokens why → IsRefused source tokens other → why ≢ refusal.NoMemory → other ≢ refusal.NoMemory
+    (source : List ℕ) (tokens : List Token) (why other : ParseRefusal) → IsSourceRefused source tokens why → IsSourceRefused source tokens other → why ≢ refusal.NoMemory → other ≢ refusal.NoMemory
     → why ≡ other
 
 -- Tokens that spell a tree that isn't too deep are refused for want of memory alone.
 abbrev pub SpelledTokensAreNotRefused : Type 0
 SpelledTokensAreNotRefused =
-    (source : List ℕ) (tokens : List Token) (tree : PlainTree) (why : ParseRefusal) → SpellsTree source tokens tree → depth tree ≤ most_tree_depth → IsRefused source tokens why → why ≡ refusal.NoMemory
+    (source : List ℕ) (tokens : List Token) (tree : PlainTree) (why : ParseRefusal) → SpellsTree source tokens tree → depth tree ≤ most_tree_depth → IsSourceRefused source tokens why → why ≡ refusal.NoMemory
 
 -- The spelling of each data operator is a token: a mark or a reserved word.
 abbrev pub OperatorsAreTokens : Type 0

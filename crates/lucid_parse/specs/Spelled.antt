@@ -17,10 +17,10 @@ abbrev pub SpellsTree : (source : List ℕ) → List Token → PlainTree → Typ
 SpellsTree source tokens tree = (terminals : List PlacedTerminal) × Terminals source tokens terminals × Spells 0 terminals tree
 
 -- The tokens are refused so: their terminals are. For want of memory any tokens may be refused.
-abbrev pub IsRefused : (source : List ℕ) → List Token → ParseRefusal → Type 0
-IsRefused source tokens (refusal.Syntax at) = (terminals : List PlacedTerminal) × Terminals source tokens terminals × AreRefused (refusal.Syntax at) terminals (length source)
-IsRefused source tokens (refusal.TooNested at) = (terminals : List PlacedTerminal) × Terminals source tokens terminals × AreRefused (refusal.TooNested at) terminals (length source)
-IsRefused source tokens refusal.NoMemory = Unit {0}
+abbrev pub IsSourceRefused : (source : List ℕ) → List Token → ParseRefusal → Type 0
+IsSourceRefused source tokens (refusal.Syntax at) = (terminals : List PlacedTerminal) × Terminals source tokens terminals × AreRefused (refusal.Syntax at) terminals (length source)
+IsSourceRefused source tokens (refusal.TooNested at) = (terminals : List PlacedTerminal) × Terminals source tokens terminals × AreRefused (refusal.TooNested at) terminals (length source)
+IsSourceRefused source tokens refusal.NoMemory = Unit {0}
 
 -- The bytes are those of a token of the kind, whatever follows them.
 abbrev pub IsTokenOf : TokenKind → List ℕ → Type 0

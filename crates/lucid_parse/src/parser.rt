@@ -7,7 +7,7 @@ ghost use Rattle.lucid_tree.specs.WellMade.{depth, places, IsWellMade, most_tree
 ghost use Rattle.lucid_parse.specs.Grammar.{Spells};
 ghost use Rattle.lucid_parse.specs.Refused.{AreRefused};
 ghost use Rattle.lucid_parse.specs.Views.{terminals_of};
-ghost use Rattle.lucid_parse.specs.Spelled.{IsRefused, SpellsTree};
+ghost use Rattle.lucid_parse.specs.Spelled.{IsSourceRefused, SpellsTree};
 
 use crate::build::build;
 use crate::depth::least_at;
@@ -50,8 +50,9 @@ pub fn parse(alloc: Global, source: &[u8], tokens: &[Token]) -> Result<Tree, Par
     ensures shallow { IfOk result (λ tree. depth tree ≤ most_tree_depth) }
     ensures well_made { IfOk result (λ tree. IsWellMade tree) }
     ensures few { IfOk result (λ tree. length (places tree) ≤ most_source_bytes) }
-    ensures refused { IfErr result (λ refusal. IsRefused source.now tokens.now refusal) }
+    ensures refused { IfErr result (λ refusal. IsSourceRefused source.now tokens.now refusal) }
 {
+    // For the proof: trees that are spelled are well made, and their places are few.
     spelled_trees_are_well_made();
     let terminals = read_terminals(alloc, source, tokens)?;
     parse_terminals(alloc, &terminals, source.len() as u32)

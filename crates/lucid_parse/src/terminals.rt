@@ -49,6 +49,7 @@ fn make_value(alloc: Global, bytes: &[u8]) -> Result<Value, ParseRefusal>
     ensures value { IfOk result (λ value. IsReading bytes.now (plain value)) }
     ensures memory { IfErr result (λ refusal. refusal ≡ ParseRefusal.NoMemory) }
 {
+    // For the proof: no line is read as two values.
     one_line_reading();
     match read_value(alloc, bytes) {
         Ok(value) => Ok(value),
@@ -87,6 +88,7 @@ pub fn read_terminals(
     ensures terminals { IfOk result (λ terminals. Terminals source.now tokens.now (terminals_of terminals.items)) }
     ensures memory { IfErr result (λ refusal. refusal ≡ ParseRefusal.NoMemory) }
 {
+    // For the proof: each token stands in the source.
     tokens_stand();
     let mut terminals = Vec::new(alloc);
     for token in tokens {

@@ -11,7 +11,3 @@ rises_from f g h i j rises low = elim (cases_lt g (2 ^ 64 - 1)) [ inl below ↦ 
 pub none_at_ok : {T E : Type 0} (result : Result T E) (x : T) (e : E) (f g : ℕ) → result ≡ Ok x → CountsNoFaultUnless (IsErrOf result e) f g → g ≡ f
 none_at_ok result x e f g was (inl failed) = absurd (cc (was, failed))
 none_at_ok result x e f g was (inr same) = same
-
--- where the first of two counted no fault, and nothing was asked late by either, nothing was by both
-pub late_then : (f g a b d : ℕ) → g ≡ f → EndsAtItsFault f a b → EndsAtItsFault g b d → EndsAtItsFault f a d
-late_then f g a b d same first second good = second (same ∙ good) ∙ first good

@@ -12,7 +12,7 @@ pub enum PortFault {
     #[error("the outside failed")]
     Failed,
     /// There was no memory for the call.
-    #[error("out of memory")]
+    #[error("no memory")]
     NoMemory,
 }
 

@@ -9,7 +9,7 @@ use Rattle.lucid_parse.specs.declared.terminal.Terminal.TheVariants as terminal
 use Rattle.lucid_parse.specs.declared.refusal.ParseRefusal.{ParseRefusal}
 use Rattle.lucid_parse.specs.declared.refusal.ParseRefusal.TheVariants as parse_refusal
 use Rattle.lucid_parse.specs.Laws.{TerminalsAreUnique, TerminalsSpellOneTree}
-use Rattle.lucid_parse.specs.Spelled.{SpellsTree, IsRefused}
+use Rattle.lucid_parse.specs.Spelled.{SpellsTree, IsSourceRefused}
 use Rattle.lucid_parse.specs.Terminals.{Terminals}
 use Rattle.lucid_print.specs.Canonical.{canonical}
 use Rattle.lucid_print.specs.Again.{IsReadAs, IsParsed}
@@ -210,7 +210,7 @@ mutual
 
 -- what is spelled by few levels isn't refused but for want of memory
 not_refused : TerminalsAreUnique → TerminalsSpellOneTree → (whole : List ℕ) (ts : List Token) (t : PlainTree) → SpellsTree whole ts t → depth t ≤ 400
-    → (why : ParseRefusal) → IsRefused whole ts why → why ≡ parse_refusal.NoMemory
+    → (why : ParseRefusal) → IsSourceRefused whole ts why → why ≡ parse_refusal.NoMemory
 not_refused unique one whole ts t s shallow (parse_refusal.Syntax at) r =
     let same : r.0 ≡ s.0 = unique whole ts r.0 s.0 r.1 s.1 in
     absurd (r.2.0 t (subst (λ ws. Spells 0 ws t) (sym same) s.2))

@@ -9,7 +9,7 @@ use Rattle.lucid_tree.specs.Tree.{PlainTree, form, name, call, block, PlainTrees
 use Rattle.lucid_tree.specs.WellMade.{depth, most_tree_depth}
 use Rattle.lucid_parse.specs.declared.refusal.ParseRefusal.{ParseRefusal}
 use Rattle.lucid_parse.specs.declared.refusal.ParseRefusal.TheVariants as parse_refusal
-use Rattle.lucid_parse.specs.Spelled.{SpellsTree, IsRefused}
+use Rattle.lucid_parse.specs.Spelled.{SpellsTree, IsSourceRefused}
 use Rattle.lucid_print.specs.Canonical.{canonical}
 
 -- The tree with no places: trees that are the same up to places are one without them.
@@ -47,7 +47,7 @@ pub record IsReadAs (source : List ℕ) (e : PlainTree) : Type 0 where
   pub shallow : depth tree ≤ most_tree_depth
   pub same : unplaced tree ≡ unplaced e
   pub scanned : (why : ScanRefusal) → Refuses source why → why ≡ scan_refusal.NoMemory
-  pub parsed : (why : ParseRefusal) → IsRefused source tokens why → why ≡ parse_refusal.NoMemory
+  pub parsed : (why : ParseRefusal) → IsSourceRefused source tokens why → why ≡ parse_refusal.NoMemory
 
 -- The canonical source of a tree that was parsed is read as that tree, up to places, where it isn't too long to be read at all.
 abbrev pub CanonicalIsReadAgain : Type 0

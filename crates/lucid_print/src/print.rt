@@ -316,6 +316,7 @@ pub fn print_tree(alloc: Global, tree: &Tree, to: &mut Vec<u8>) -> Result<(), Al
     ensures unchanged { OnErr result (to.new.items ≡ to.old.items) }
     ensures again { IsParsed tree.now → length (canonical tree.now) ≤ most_source_bytes → IsReadAs (canonical tree.now) tree.now }
 {
+    // For the proof: a canonical text is read again as its tree.
     canonical_is_read_again();
     let mut text = Vec::new(alloc);
     put_tree(alloc, tree, &mut text)?;

@@ -133,6 +133,7 @@ fn bracket_token(alloc: Global, bytes: &[u8]) -> Result<Option<Front>, AllocErro
             len: n,
         }));
     }
+    // For the proof: no list's bytes begin another list's.
     one_list_front();
     let list = list_front(alloc, bytes)?;
     match list {

@@ -13,7 +13,7 @@ pub use Rattle.lucid_equations.specs.Visits.{consults_on_nodes, visited_datons, 
 pub use Rattle.lucid_equations.specs.declared.table.Table.{Table}
 pub use Rattle.lucid_demand_steps.proofs.History.{reads_only_itself}
 pub use Rattle.lucid_demand_steps.specs.Elements.{elements_told}
-pub use Rattle.lucid_demand_steps.specs.Engine.{AreAskable, EngineView, HoldsNeeded, IsSound, MayHave, ReadsOnly, holding, places_of}
+pub use Rattle.lucid_demand_steps.specs.Engine.{AreAskable, EngineView, HoldsNeeded, IsSoundEngine, MayHave, ReadsOnly, holding, places_of}
 pub use Rattle.lucid_demand_steps.specs.Held.{HoldsRight}
 pub use Rattle.lucid_inputs.specs.Streams.{Stream, all_bytes}
 pub use Rattle.lucid_ports.proofs.WritingLemmas.{with_nothing}

@@ -1,5 +1,5 @@
 -- How a run ends, and what it has promised then.
-use Rattle.lucid_session.proofs.Common.{◌≡◌, ◌≢◌, ℕ, suc, ◌+◌, ◌<◌, ◌≤◌, Bool, true, false, List, length, Option, None, refl, sym, ap, ◌∙◌, subst, arith, ◌⊎◌, inl, inr, append-nil, ◌↔◌, IsTrue, IfSome, Ok, Err, IsErrOf, option_map, slice_get, slice_get_within, same_Some, none-some, Value, end_of_line, Elements, count_of, IsOneForEach, Rises, World, Contents, with_all, Summary, all_bytes, HasDistinct, Points, Daton, Context, In, EngineView, IsSound, ReadsOnly, places_of, DemandFault, Output, Told, Written, ForSomeAdded, ConsumesWithin, ReadsWithin, EndsAt, Ran, Causes, Counted, root_counted, Demands, ArePointsBelow, times_of, Figures, HasMoreThan, PromisesColumns, of_demand, Added, Start, subject, layout, before, Has, seen, of_run, Visited, SoFar, Standing, Draws, IsConsultedSoFar, with_point, Found, Asked}
+use Rattle.lucid_session.proofs.Common.{◌≡◌, ◌≢◌, ℕ, suc, ◌+◌, ◌<◌, ◌≤◌, Bool, true, false, List, length, Option, None, refl, sym, ap, ◌∙◌, subst, arith, ◌⊎◌, inl, inr, append-nil, ◌↔◌, IsTrue, IfSome, Ok, Err, IsErrOf, option_map, slice_get, slice_get_within, same_Some, none-some, Value, end_of_line, Elements, count_of, IsOneForEach, Rises, World, Contents, with_all, Summary, all_bytes, HasDistinct, Points, Daton, Context, In, EngineView, IsSoundEngine, ReadsOnly, places_of, DemandFault, Output, Told, Written, ForSomeAdded, ConsumesWithin, ReadsWithin, EndsAt, Ran, Causes, Counted, root_counted, Demands, ArePointsBelow, times_of, Figures, HasMoreThan, PromisesColumns, of_demand, Added, Start, subject, layout, before, Has, seen, of_run, Visited, SoFar, Standing, Draws, IsConsultedSoFar, with_point, Found, Asked}
 use Rattle.std.proofs.Common.{[], Some}
 use Rattle.lucid_value.specs.Lines.{IsOverlong}
 use Rattle.lucid_ports.specs.Faults.{CountsNoFaultUnless}
@@ -101,7 +101,7 @@ module _ (z : Start) (b : Elements) (w : World) (o : Told) where
       too_large = tt;
     }
 
-    pub figures_done : IsSound e → IsOneForEach e.stored → s.held ≡ count_of e.stored → s.lost ≡ e.stored.lost → s.cleared ≡ c → times_of s ≡ a
+    pub figures_done : IsSoundEngine e → IsOneForEach e.stored → s.held ≡ count_of e.stored → s.lost ≡ e.stored.lost → s.cleared ≡ c → times_of s ≡ a
         → Figures (counted z) b (seen z w o) (Ok s)
     figures_done sound each held lost cleared times = record {
       held = λ keeps none again points exactly m defined.

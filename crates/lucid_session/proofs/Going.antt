@@ -1,5 +1,5 @@
 -- How a run goes on: it begins, and a value is demanded.
-use Rattle.lucid_session.proofs.Common.{◌≡◌, ℕ, ◌+◌, ◌<◌, ◌≤◌, length, Option, None, refl, sym, ap, ◌∙◌, subst, arith, ◌⊎◌, inl, inr, IsTrue, IfSome, Result, Ok, Err, IfOk, IfErr, ◌↔◌, cases_lt, slice_get_within, same_Some, Value, plain, In, Elements, Context, root, count_of, empty_warehouse, Rises, World, eqval, equations_of, HoldsRight, elements_told, EngineView, IsSound, AreAskable, ReadsOnly, MayHave, HoldsNeeded, places_of, holding, reads_only_itself, Demanded, DemandFault, StreamMeans, table_stream_at, Found, Asked, Start, Has, of_run, Draws, IsEntered, MuchEntered, Visited, Holds, SoFar, with_point, Standing, ◌-◌, ◌^◌}
+use Rattle.lucid_session.proofs.Common.{◌≡◌, ℕ, ◌+◌, ◌<◌, ◌≤◌, length, Option, None, refl, sym, ap, ◌∙◌, subst, arith, ◌⊎◌, inl, inr, IsTrue, IfSome, Result, Ok, Err, IfOk, IfErr, ◌↔◌, cases_lt, slice_get_within, same_Some, Value, plain, In, Elements, Context, root, count_of, empty_warehouse, Rises, World, eqval, equations_of, HoldsRight, elements_told, EngineView, IsSoundEngine, AreAskable, ReadsOnly, MayHave, HoldsNeeded, places_of, holding, reads_only_itself, Demanded, DemandFault, StreamMeans, table_stream_at, Found, Asked, Start, Has, of_run, Draws, IsEntered, MuchEntered, Visited, Holds, SoFar, with_point, Standing, ◌-◌, ◌^◌}
 use Rattle.std.proofs.Common.{[], ◌∷◌, Some}
 use Rattle.lucid_demand_steps.specs.Engine.{ConsultsOverlong, GoesOn, known_elements}
 use Rattle.lucid_demand_steps.proofs.History.{reads_only_then}
@@ -22,7 +22,7 @@ same_contents : {A : Type 0} (o : Option A) (x y : A) → o ≡ Some x → o ≡
 same_contents o x y e f = same_Some _ _ (sym e ∙ f)
 
 -- A run begins with an engine that holds nothing and knows the empty context alone: no point was demanded.
-pub begins : (z : Start) (D : Elements → (time space : ℕ) → Type 0) (e : EngineView) → e ≡ of_run z e → IsSound e → AreAskable e.streams z.before
+pub begins : (z : Start) (D : Elements → (time space : ℕ) → Type 0) (e : EngineView) → e ≡ of_run z e → IsSoundEngine e → AreAskable e.streams z.before
     → places_of e.streams ≡ z.places → e.known ≡ root ∷ [] → e.stored ≡ empty_warehouse
     → ((b : Elements) (t s : ℕ) → D b t s → ⊥) → Standing z D e z.before 0
 begins z D e is sound askable places known stored never = record {
@@ -181,12 +181,12 @@ module _ (z : Start) (D : Elements → (time space : ℕ) → Type 0) (e f : Eng
 
         right : HoldsRight (equations_of z.table) b (holding e)
         right = right_over (equations_of z.table) (known_elements (of_run z e)) b (λ n j x h. may n j x (d.goes_on.elements n j x h)) (holding e)
-            (subst IsSound standing.is standing.sound).right
+            (subst IsSoundEngine standing.is standing.sound).right
 
     asked_now : Asked z D f v c t s result
     asked_now = record {
       is = is_now;
-      sound = subst IsSound (sym is_now) d.sound;
+      sound = subst IsSoundEngine (sym is_now) d.sound;
       askable = d.fits;
       places = places_now;
       reads_only = reads_now;

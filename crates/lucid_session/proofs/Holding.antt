@@ -1,5 +1,5 @@
 -- How many values an engine holds: as many as different datons are needed, where exactly these are held.
-use Rattle.lucid_session.proofs.Common.{◌≡◌, ℕ, ◌≤◌, Bool, true, false, cond, List, map, Option, None, refl, sym, ap, ◌∙◌, subst, arith, ◌⊎◌, inl, inr, true≢false, IsTrue, IsSome, option_map, ◌↔◌, length-map, PlainValue, plain, In, AllDiffer, Elements, in_map, Context, root, IsOneForOne, IsOneForEach, count_of, empty_warehouse, eqval, visited_datons, HasDistinct, Points, equations_of, needed-visited, EngineView, IsSound, HoldsNeeded, holding, table_counted, IsDefinedAt, Start, of_run, IsNeededSoFar, Holds, with_point, is_some, IsDistinct, AllByRecursion, lookup, keys_of, IsDistinct-head, IsDistinct-tail}
+use Rattle.lucid_session.proofs.Common.{◌≡◌, ℕ, ◌≤◌, Bool, true, false, cond, List, map, Option, None, refl, sym, ap, ◌∙◌, subst, arith, ◌⊎◌, inl, inr, true≢false, IsTrue, IsSome, option_map, ◌↔◌, length-map, PlainValue, plain, In, AllDiffer, Elements, in_map, Context, root, IsOneForOne, IsOneForEach, count_of, empty_warehouse, eqval, visited_datons, HasDistinct, Points, equations_of, needed-visited, EngineView, IsSoundEngine, HoldsNeeded, holding, table_counted, IsDefinedAt, Start, of_run, IsNeededSoFar, Holds, with_point, is_some, IsDistinct, AllByRecursion, lookup, keys_of, IsDistinct-head, IsDistinct-tail}
 use Rattle.std.proofs.Common.{[], ◌∷◌, Some}
 use Rattle.lucid_lists.proofs.Options.{value_there as some_value, some_still}
 use Rattle.lucid_tags.specs.Known.{IsKnown}
@@ -93,7 +93,7 @@ module _ (z : Start) (b : Elements) (D : (time space : ℕ) → Type 0) where
   -- Where exactly what is needed at some points is held, as many values are held as datons are visited by any approximation that is defined
   -- at all of them.
   pub held_count :
-      (e : EngineView) (c : ℕ) → IsSound e → IsOneForEach e.stored → Holds z b D e c → IsTrue z.policy.keeps → e.stored.lost ≡ 0 → c ≡ 0
+      (e : EngineView) (c : ℕ) → IsSoundEngine e → IsOneForEach e.stored → Holds z b D e c → IsTrue z.policy.keeps → e.stored.lost ≡ 0 → c ≡ 0
       → (points : Points) → ((t s : ℕ) → In (t, s) points ↔ D t s) → (m : ℕ) → IsDefinedAt (table_counted z.table) b m points
       → HasDistinct (datons (equations_of z.table) b m 0 points) (count_of e.stored)
   held_count e c sound each holds keeps none again points exactly m defined = record {

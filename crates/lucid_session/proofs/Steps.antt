@@ -1,5 +1,5 @@
 -- The steps of a run, as its code takes them.
-use Rattle.lucid_session.proofs.Common.{◌≡◌, ℕ, suc, ◌+◌, ◌<◌, ◌≤◌, Bool, List, length, true, false, refl, sym, ap, ◌∙◌, subst, add-one, arith, ◌⊎◌, inl, inr, ◌++◌, true≢false, Result, Ok, Err, IsTrue, IsSome, slice_get, with_nothing, Value, eod, value_text, plain, Elements, root, count_of, empty_warehouse, IsOneForEach, World, Summary, RunFault, eqval, equations_of, Table, EngineView, IsSound, AreAskable, places_of, Demanded, most_known, DemandFault, table_stream_at, table_columns, HasEnded, IsOpen, OfSome, no_lines, Told, RunView, EndsAt, Demands, times_of, of_demand, WritesLine, Start, subject, layout, before, Has, seen, of_run, Standing, Asked, StopsAt, GivesCell, IsMarked, AreMarked, HasCells, PromisesColumns}
+use Rattle.lucid_session.proofs.Common.{◌≡◌, ℕ, suc, ◌+◌, ◌<◌, ◌≤◌, Bool, List, length, true, false, refl, sym, ap, ◌∙◌, subst, add-one, arith, ◌⊎◌, inl, inr, ◌++◌, true≢false, Result, Ok, Err, IsTrue, IsSome, slice_get, with_nothing, Value, eod, value_text, plain, Elements, root, count_of, empty_warehouse, IsOneForEach, World, Summary, RunFault, eqval, equations_of, Table, EngineView, IsSoundEngine, AreAskable, places_of, Demanded, most_known, DemandFault, table_stream_at, table_columns, HasEnded, IsOpen, OfSome, no_lines, Told, RunView, EndsAt, Demands, times_of, of_demand, WritesLine, Start, subject, layout, before, Has, seen, of_run, Standing, Asked, StopsAt, GivesCell, IsMarked, AreMarked, HasCells, PromisesColumns}
 use Rattle.std.specs.Prelude.{◌∷◌, [], Some}
 use Rattle.lucid_ports.specs.declared.run.Options.{Options}
 use Rattle.lucid_ports.specs.declared.run.RunFault.TheVariants as run
@@ -69,7 +69,7 @@ module _ (z : Start) (e g f : EngineView) (w v : World) (t s u c d depth : ℕ) 
     short_here = inr (record { space = s + 1; is = refl; standing = standing_here })
 
 -- A run begins: at no point was anything demanded, no line is written, and all columns are open.
-module _ (z : Start) (e : EngineView) (is : e ≡ of_run z e) (sound : IsSound e) (askable : AreAskable e.streams z.before)
+module _ (z : Start) (e : EngineView) (is : e ≡ of_run z e) (sound : IsSoundEngine e) (askable : AreAskable e.streams z.before)
     (places : places_of e.streams ≡ z.places) (known : e.known ≡ root ∷ []) (stored : e.stored ≡ empty_warehouse) where
   pub begins_there : Going z e z.before z.out_before 0 0
   begins_there = record {
@@ -181,7 +181,7 @@ counted_there z e w o t c going all each s is =
     (λ b has empties is. absurd (true≢false (sym is ∙ ended)))
 
 -- What is said of an engine is said of what it is made as.
-pub fresh_there : (e x : EngineView) (w : World) → IsSound e → e ≡ x → AreAskable x.streams w → x.known ≡ root ∷ [] → x.stored ≡ empty_warehouse → IsFresh e w
+pub fresh_there : (e x : EngineView) (w : World) → IsSoundEngine e → e ≡ x → AreAskable x.streams w → x.known ≡ root ∷ [] → x.stored ≡ empty_warehouse → IsFresh e w
 fresh_there e x w sound is askable known stored = record {
   sound = sound;
   known = ap (λ y. y.known) is ∙ known;

@@ -1,5 +1,5 @@
 -- A line is written, or its front, and the engine may be cleared.
-use Rattle.lucid_session.proofs.Common.{◌≡◌, ◌≢◌, ℕ, suc, ◌<◌, ◌≤◌, List, ◌++◌, length, take, Option, refl, sym, ap, ◌∙◌, subst, arith, ◌⊎◌, inl, inr, cases_lt, IsTrue, Result, Ok, Err, IsErrOf, In, Elements, Context, root, count_of, Rises, World, with_all, Summary, RunFault, Points, EngineView, IsSound, AreAskable, places_of, Subject, one_line_more, Told, RunView, Written, ForSomeAdded, ConsumesWithin, ReadsWithin, IsTooDeep, OnTooDeep, OnTooLarge, IsShown, Ran, IsUndefinedHeld, ArePointsBelow, HasMoreThan, OnDepth, OnClearings, PromisesColumns, WritesLine, most_known, Start, subject, layout, before, Has, seen, IsEntered, Standing, take-length}
+use Rattle.lucid_session.proofs.Common.{◌≡◌, ◌≢◌, ℕ, suc, ◌<◌, ◌≤◌, List, ◌++◌, length, take, Option, refl, sym, ap, ◌∙◌, subst, arith, ◌⊎◌, inl, inr, cases_lt, IsTrue, Result, Ok, Err, IsErrOf, In, Elements, Context, root, count_of, Rises, World, with_all, Summary, RunFault, Points, EngineView, IsSoundEngine, AreAskable, places_of, Subject, one_line_more, Told, RunView, Written, ForSomeAdded, ConsumesWithin, ReadsWithin, IsTooDeep, OnTooDeep, OnTooLarge, IsShown, Ran, IsUndefinedHeld, ArePointsBelow, HasMoreThan, OnDepth, OnClearings, PromisesColumns, WritesLine, most_known, Start, subject, layout, before, Has, seen, IsEntered, Standing, take-length}
 use Rattle.std.proofs.Common.{[], ◌∷◌}
 use Rattle.lucid_ports.proofs.WritingLemmas.{all_all as all-all}
 use Rattle.lucid_store.specs.Entries.{cleared}
@@ -167,7 +167,7 @@ module _ (z : Start) (e : EngineView) (w : World) (o p : Told) (t c : ℕ) (next
 -- The engine is cleared where more than a million contexts are known, and that is counted.
 module _ (z : Start) (D : Elements → (time space : ℕ) → Type 0) (e f : EngineView) (w : World) (c : ℕ) (standing : Standing z D e w c)
     (much : most_known < length e.known) where
-  pub cleared_standing : f ≡ record e { known = root ∷ []; stored = cleared e.stored; noted = record e.noted { sites = [] } } → IsSound f
+  pub cleared_standing : f ≡ record e { known = root ∷ []; stored = cleared e.stored; noted = record e.noted { sites = [] } } → IsSoundEngine f
       → Standing z D f w (suc c)
   cleared_standing is sound = record {
     is = is ∙ (λ i. record {

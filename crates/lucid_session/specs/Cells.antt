@@ -17,7 +17,7 @@ use Rattle.lucid_equations.specs.Values.{eqval, eqhval}
 use Rattle.lucid_equations.specs.Counts.{Points, valued_datons}
 use Rattle.lucid_equations.specs.Rows.{equations_of}
 use Rattle.lucid_demand_steps.specs.Stands.{Holding}
-use Rattle.lucid_demand_steps.specs.Engine.{EngineView, IsSound, AreAskable, ReadsOnly, HoldsFew, ConsultsOverlong, places_of}
+use Rattle.lucid_demand_steps.specs.Engine.{EngineView, IsSoundEngine, AreAskable, ReadsOnly, HoldsFew, ConsultsOverlong, places_of}
 use Rattle.lucid_demand.specs.Demanded as demand
 use Rattle.lucid_demand_steps.specs.Faults as faults
 use Rattle.lucid_demand_steps.specs.declared.fault.DemandFault.{DemandFault}
@@ -44,7 +44,7 @@ pub record Found (z : Start) (b : Elements) (D : (time space : ℕ) → Type 0) 
 -- What stands after that demand.
 pub record Asked (z : Start) (D : Elements → (time space : ℕ) → Type 0) (e : EngineView) (w : World) (cleared time space : ℕ) (result : Result Value DemandFault) : Type 0 where
   pub is : e ≡ of_run z e
-  pub sound : IsSound e
+  pub sound : IsSoundEngine e
   pub askable : AreAskable e.streams w
   pub places : places_of e.streams ≡ z.places
   pub reads_only : ReadsOnly z.places z.before w
@@ -102,4 +102,4 @@ pub record HasCells (z : Start) (b : Elements) (time space : ℕ) (line : List �
 abbrev pub ClearsMany : (old new : EngineView) → (cleared cleared_now : ℕ) → Type 0
 ClearsMany e f c d =
     ((f ≡ e) × (d ≡ c) × (length e.known ≤ demand.most_known))
-    ⊎ ((demand.most_known < length e.known) × (f ≡ record e { known = root ∷ []; stored = cleared e.stored; noted = record e.noted { sites = [] } }) × IsSound f × (d ≡ c + 1))
+    ⊎ ((demand.most_known < length e.known) × (f ≡ record e { known = root ∷ []; stored = cleared e.stored; noted = record e.noted { sites = [] } }) × IsSoundEngine f × (d ≡ c + 1))

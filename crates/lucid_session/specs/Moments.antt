@@ -14,7 +14,7 @@ use Rattle.lucid_equations.specs.Visits.{consults_on_nodes, visited_contexts, Is
 use Rattle.lucid_equations.specs.Counts.{Points, contexts}
 use Rattle.lucid_equations.specs.Rows.{equations_of}
 use Rattle.lucid_equations.specs.declared.table.Table.{Table}
-use Rattle.lucid_demand_steps.specs.Engine.{EngineView, IsSound, AreAskable, ReadsOnly, HoldsFew, places_of, holding}
+use Rattle.lucid_demand_steps.specs.Engine.{EngineView, IsSoundEngine, AreAskable, ReadsOnly, HoldsFew, places_of, holding}
 use Rattle.lucid_session.specs.Subject.{Subject, columns_subject, table_columns}
 use Rattle.lucid_session.specs.Runs.{PolicyView, RunView, HasElements, ReadsWithin}
 use Rattle.lucid_ports.specs.Told.{Told}
@@ -133,7 +133,7 @@ with_point D t s u r = D u r ⊎ ((u ≡ t) × (r ≡ s))
 -- The engine of a run between two demands: D are the points demanded so far, by the elements of the inputs.
 pub record Standing (z : Start) (D : Elements → (time space : ℕ) → Type 0) (e : EngineView) (w : World) (cleared : ℕ) : Type 0 where
   pub is : e ≡ of_run z e
-  pub sound : IsSound e
+  pub sound : IsSoundEngine e
   pub askable : AreAskable e.streams w
   pub places : places_of e.streams ≡ z.places
   pub reads_only : ReadsOnly z.places z.before w

@@ -8,7 +8,7 @@ use Rattle.lucid_ports.specs.declared.run.Options.{Options}
 use Rattle.lucid_ports.specs.declared.run.Summary.{Summary}
 use Rattle.lucid_ports.specs.declared.run.RunFault.{RunFault}
 use Rattle.lucid_equations.specs.declared.table.Table.{Table}
-use Rattle.lucid_demand_steps.specs.Engine.{EngineView, IsSound, AreAskable, ReadsOnly, places_of}
+use Rattle.lucid_demand_steps.specs.Engine.{EngineView, IsSoundEngine, AreAskable, ReadsOnly, places_of}
 use Rattle.lucid_session.specs.Subject.{Subject, columns_subject, table_columns}
 use Rattle.lucid_session.specs.Runs.{RunView, HasElements, Ran, Causes}
 use Rattle.lucid_ports.specs.Told.{Told}
@@ -16,7 +16,7 @@ use Rattle.lucid_session.specs.Figures.{Counted, columns_counted, Figures}
 
 -- The engine holds nothing and knows the empty context alone, and its inputs may be asked.
 pub record IsFresh (e : EngineView) (w : World) : Type 0 where
-  pub sound : IsSound e
+  pub sound : IsSoundEngine e
   pub known : e.known ≡ root ∷ []
   pub stored : e.stored ≡ empty_warehouse
   pub askable : AreAskable e.streams w

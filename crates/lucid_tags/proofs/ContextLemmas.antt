@@ -1,5 +1,5 @@
 -- Contexts: cutting, and which contexts are further out.
-use Rattle.lucid_tags.proofs.Common.{◌≡◌, ℕ, suc, ◌<◌, ◌≤◌, ◌⊎◌, inl, inr, Bool, true, false, Option, None, ◌==◌, if◌then◌else◌, refl, ◌∙◌, ap, sym, subst, arith, nat_tests, Context, root, frozen_frame, frames, base_of, cut, IsOuter}
+use Rattle.lucid_tags.proofs.Common.{◌≡◌, ℕ, suc, ◌<◌, ◌≤◌, None, refl, ◌∙◌, subst, arith, Context, root, frozen_frame, frames, base_of, cut, IsOuter}
 use Rattle.std.proofs.Common.{Some}
 use Rattle.lucid_lists.proofs.Numbers.{number_itself, below_differs, above_differs}
 use Rattle.lucid_tags.specs.Contexts.{call_frame}
@@ -51,34 +51,3 @@ cut-base_of (call_frame place caller base) level h =
 cut-base_of (frozen_frame time base) level h =
     let own : frames base ≡ level = omega arith in
     subst (λ n. cut n (frozen_frame time base) ≡ Some base) own (cut-frozen_frame (frames base) time base (omega arith) ∙ cut-frames base)
-
--- a cut has as many frames as the level says, and is further out
-chosen : (b : Bool) (x f : Context) (rest : Option Context) → (if b then Some x else rest) ≡ Some f → ((b ≡ true) × (x ≡ f)) ⊎ (rest ≡ Some f)
-chosen true x f rest h = inl (refl, cc)
-chosen false x f rest h = inr h
-
-equal-numbers : (l n : ℕ) → (l == n) ≡ true → n ≡ l
-equal-numbers l n h = grind (arith, nat_tests)
-
-module _ (level : ℕ) (f : Context) where
-  abbrev IsThere : Context → Type 0
-  IsThere c = (frames f ≡ level) × IsOuter f c
-
-  at_own : (c : Context) → (level == frames c) ≡ true → c ≡ f → IsThere c
-  at_own c b e = (ap frames (sym e) ∙ equal-numbers level (frames c) b, subst (λ x. IsOuter x c) e (outer-itself c))
-
-  at_base : (c : Context) → IsThere (base_of c) → IsThere c
-  at_base c h = (h.0, outer-outer f (base_of c) c h.1 (outer-base_of c))
-
-  pub frames-cut : (c : Context) → cut level c ≡ Some f → (frames f ≡ level) × IsOuter f c
-  frames-cut root h = elim (chosen (level == 0) root f None h) [ inl p ↦ at_own root p.0 p.1 | inr p ↦ absurd (cc) ]
-  frames-cut (call_frame place caller base) h =
-      elim (chosen (level == suc (frames base)) (call_frame place caller base) f (cut level base) h) [
-        | inl p ↦ at_own (call_frame place caller base) p.0 p.1
-        | inr p ↦ at_base (call_frame place caller base) (frames-cut base p)
-      ]
-  frames-cut (frozen_frame time base) h =
-      elim (chosen (level == suc (frames base)) (frozen_frame time base) f (cut level base) h) [
-        | inl p ↦ at_own (frozen_frame time base) p.0 p.1
-        | inr p ↦ at_base (frozen_frame time base) (frames-cut base p)
-      ]

@@ -285,7 +285,7 @@ fn with_second_root(alloc: Global) -> Result<Table, Fail> {
 fn is_refused(alloc: Global) -> Result<bool, Fail> {
     match build(alloc, with_second_root(alloc)?) {
         Ok(_) => Ok(false),
-        Err(why) => Ok(why.to_string(alloc)?.as_str() == "scope 3 is wrong"),
+        Err(why) => Ok(why.to_string(alloc)?.as_str() == "flat scope 3 is wrong"),
     }
 }
 

@@ -47,6 +47,7 @@ pub fn add_lines<L: Lines>(
     requires some { CanGoOn L.is_text [] }
     ensures { IfOk result (λ wrong. MatchOption wrong (L.keeps to.new × L.is_text (L.lines to.new) × (bytes.now ≡ text_of (L.lines to.new))) (λ line. IsFirstWrongLine L.is_text bytes.now line)) }
 {
+    // For the proof: what a text is made of are lines.
     L::lines_of_texts();
     let mut rest = bytes;
     let mut read: u64 = 0;

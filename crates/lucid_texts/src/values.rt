@@ -9,6 +9,7 @@ use std::alloc::{AllocError, Global};
 pub fn read_text(alloc: Global, bytes: &[u8]) -> Result<Option<Value>, AllocError>
     ensures { IfOk result (λ read. IsValueOf bytes.now read) }
 {
+    // For the proof: a value's text is read as that value, and no line is read as two values.
     text_is_read();
     one_line_reading();
     let value = match read_value(alloc, bytes) {

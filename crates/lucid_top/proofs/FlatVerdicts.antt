@@ -4,7 +4,7 @@ use Rattle.lucid_texts.proofs.TextsRead.{line_once}
 use Rattle.lucid_flat.specs.FlatText.{flat_lines}
 use Rattle.lucid_flat.specs.FlatTables.{AreTableLines}
 use Rattle.lucid_flat.specs.Laws.{OneTable}
-use Rattle.lucid_flat.specs.WrongRows.{IsRefused}
+use Rattle.lucid_flat.specs.WrongRows.{IsTableRefused}
 use Rattle.lucid_flat.specs.declared.program.BuildRefusal.TheVariants as build
 use Rattle.lucid_report.specs.declared.refusal.Refusal.TheVariants as refusal
 use Rattle.lucid_report.specs.declared.stop.Stop.TheVariants as stop
@@ -15,15 +15,15 @@ no_text : (bytes : List ℕ) (line : ℕ) (t : Table) → IsFirstWrongLine bytes
 no_text bytes line t wrong x = wrong.no_text (flat_lines t) (t, x.has, refl) x.text
 
 -- a row that is told is the first wrong one, and the table isn't sound
-wrong_row : (t : Table) (e : BuildRefusal) (v : Refusal) → build_stop e ≡ stop.Refused v → IsRefused t e → IsFirstWrongRow t e
+wrong_row : (t : Table) (e : BuildRefusal) (v : Refusal) → build_stop e ≡ stop.Refused v → IsTableRefused t e → IsFirstWrongRow t e
 wrong_row t build.NoMemory v is r = absurd (cc is)
 wrong_row t _ v is r = r.0
 
-not_sound : (t : Table) (e : BuildRefusal) (v : Refusal) → build_stop e ≡ stop.Refused v → IsRefused t e → IsSound t → ⊥
+not_sound : (t : Table) (e : BuildRefusal) (v : Refusal) → build_stop e ≡ stop.Refused v → IsTableRefused t e → IsSound t → ⊥
 not_sound t build.NoMemory v is r = absurd (cc is)
 not_sound t _ v is r = r.1
 
-same_row : (t : Table) (e f : BuildRefusal) (v w : Refusal) → build_stop e ≡ stop.Refused v → build_stop f ≡ stop.Refused w → IsRefused t e → IsRefused t f
+same_row : (t : Table) (e f : BuildRefusal) (v w : Refusal) → build_stop e ≡ stop.Refused v → build_stop f ≡ stop.Refused w → IsTableRefused t e → IsTableRefused t f
     → v ≡ w
 same_row t e f v w is js r s =
     let same : build_stop e ≡ build_stop f = ap build_stop (one_wrong t e f (wrong_row t e v is r) (wrong_row t f w js s)) in cc (is, js, same)
@@ -36,7 +36,7 @@ table_is_not_refused one source t why x (by_length long) = let short = x.has.sho
 table_is_not_refused one source t why x (by_line short wrong) = no_text source _ t wrong x.has.text
 table_is_not_refused one source t why x (by_row u e is has refused) =
     let same : u ≡ t = one source u t has.text x.has.text in
-    not_sound t e why is (subst (λ s. IsRefused s e) same refused) x.sound
+    not_sound t e why is (subst (λ s. IsTableRefused s e) same refused) x.sound
 
 pub one_flat_refusal : OneTable → OneFlatRefusal
 one_flat_refusal one source v w (by_length long) (by_length long') = refl
@@ -49,4 +49,4 @@ one_flat_refusal one source v w (by_row t e is has refused) (by_length long) = l
 one_flat_refusal one source v w (by_row t e is has refused) (by_line short wrong) = absurd (no_text source _ t wrong has.text)
 one_flat_refusal one source v w (by_row t e is has refused) (by_row u f js has' refused') =
     let same : u ≡ t = one source u t has'.text has.text in
-    same_row t e f v w is js refused (subst (λ s. IsRefused s f) same refused')
+    same_row t e f v w is js refused (subst (λ s. IsTableRefused s f) same refused')

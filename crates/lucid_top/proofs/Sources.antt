@@ -3,7 +3,7 @@ use Rattle.lucid_top.proofs.Common.{◌≡◌, ℕ, ◌+◌, ◌≤◌, ◌<◌,
 use Rattle.std.proofs.Common.{take}
 use Rattle.lucid_scan.specs.declared.refusal.ScanRefusal.TheVariants as scan
 use Rattle.lucid_scan.specs.Refusals.{Refuses}
-use Rattle.lucid_parse.specs.Spelled.{IsRefused}
+use Rattle.lucid_parse.specs.Spelled.{IsSourceRefused}
 use Rattle.lucid_report.specs.declared.stop.Stop.TheVariants as stop
 use Rattle.lucid_cert_rules.specs.WhyTexts as why
 use Rattle.lucid_top.specs.Places.{IsSourceFront}
@@ -37,7 +37,7 @@ whole_refused source why (by_scan (scan.BigNumber at) is r) =
 whole_refused source why (by_scan scan.NoMemory is r) = by_scan scan.NoMemory is tt
 whole_refused source why (by_parse e tokens is has r) =
     by_parse e tokens is (subst (λ s. HasTokens s tokens) (short_whole most_source_bytes source has.short) has)
-    (subst (λ s. IsRefused s tokens e) (short_whole most_source_bytes source has.short) r)
+    (subst (λ s. IsSourceRefused s tokens e) (short_whole most_source_bytes source has.short) r)
 
 whole_spells : (source : List ℕ) (t : Table) → SpellsTable (take (most_flat_bytes + 1) source) t → SpellsTable source t
 whole_spells source t x = subst (λ s. SpellsTable s t) (short_whole most_flat_bytes source x.has.short) x

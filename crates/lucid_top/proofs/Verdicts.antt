@@ -6,7 +6,7 @@ use Rattle.lucid_scan.specs.Refusals.{Refuses}
 use Rattle.lucid_parse.specs.declared.refusal.ParseRefusal.TheVariants as parse
 use Rattle.lucid_parse.specs.Depth.{at_depth, IsLeast}
 use Rattle.lucid_parse.specs.Verdict.{IsFault}
-use Rattle.lucid_parse.specs.Spelled.{IsRefused}
+use Rattle.lucid_parse.specs.Spelled.{IsSourceRefused}
 use Rattle.lucid_parse.specs.Laws.{FaultIsUnique, TerminalsAreUnique, TerminalsSpellOneTree}
 use Rattle.lucid_parse.proofs.Verdicts.{least_once}
 use Rattle.lucid_scope.specs.Laws.{LeastFaultIsUnique}
@@ -47,7 +47,7 @@ same_terminals l source ts us ws vs a b x y =
     let same : us ≡ ts = l.tokens source us ts b.listed a.listed in l.terminals source ts ws vs x (subst (λ t. Terminals source t vs) same y)
 
 parse_parse : Laws → (source : List ℕ) (ts us : List Token) (e f : ParseRefusal) (v w : Refusal) → parse_stop e ≡ stop.Refused v → parse_stop f ≡ stop.Refused w
-    → HasTokens source ts → HasTokens source us → IsRefused source ts e → IsRefused source us f → v ≡ w
+    → HasTokens source ts → HasTokens source us → IsSourceRefused source ts e → IsSourceRefused source us f → v ≡ w
 parse_parse l source ts us (parse.Syntax a) (parse.Syntax b) v w is js x y r s =
     let words : r.0 ≡ s.0 = same_terminals l source ts us r.0 s.0 x y r.1 s.1 in
     let at : a ≡ b = l.faults s.0 (length source) a b (subst (λ ws. IsFault ws (length source) a) words r.2.1) s.2.1 in

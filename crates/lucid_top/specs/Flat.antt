@@ -3,7 +3,7 @@ use Rattle.std.specs.Prelude.{◌≡◌, ℕ, ◌<◌, ◌≤◌, List, length}
 use Rattle.lucid_equations.specs.Sound.{IsSound}
 use Rattle.lucid_equations.specs.declared.table.Table.{Table}
 use Rattle.lucid_flat.specs.FlatTables.{IsTextOf, IsFirstWrongLine}
-use Rattle.lucid_flat.specs.WrongRows.{IsRefused}
+use Rattle.lucid_flat.specs.WrongRows.{IsTableRefused}
 use Rattle.lucid_flat.specs.declared.program.BuildRefusal.{BuildRefusal}
 use Rattle.lucid_report.specs.declared.refusal.Refusal.{Refusal}
 use Rattle.lucid_report.specs.declared.refusal.Refusal.TheVariants as refusal
@@ -28,4 +28,4 @@ pub record SpellsTable (source : List ℕ) (t : Table) : Type 0 where
 pub data RefusesFlat (source : List ℕ) : (why : Refusal) → Type 0 where
   by_length : most_flat_bytes < length source → RefusesFlat source refusal.TooLong
   by_line : {line : ℕ} → length source ≤ most_flat_bytes → IsFirstWrongLine source line → RefusesFlat source (refusal.NoFlatLine line)
-  by_row : {why : Refusal} → (t : Table) (e : BuildRefusal) → build_stop e ≡ stop.Refused why → HasTable source t → IsRefused t e → RefusesFlat source why
+  by_row : {why : Refusal} → (t : Table) (e : BuildRefusal) → build_stop e ≡ stop.Refused why → HasTable source t → IsTableRefused t e → RefusesFlat source why

@@ -8,7 +8,7 @@ use Rattle.lucid_scan.specs.declared.refusal.ScanRefusal.{ScanRefusal}
 use Rattle.lucid_scan.specs.Tokens.{Tokens}
 use Rattle.lucid_scan.specs.Refusals.{Refuses, most_source_bytes}
 use Rattle.lucid_parse.specs.declared.refusal.ParseRefusal.{ParseRefusal}
-use Rattle.lucid_parse.specs.Spelled.{SpellsTree, IsRefused}
+use Rattle.lucid_parse.specs.Spelled.{SpellsTree, IsSourceRefused}
 use Rattle.lucid_scope.specs.declared.refusal.ScopeRefusal.{ScopeRefusal}
 use Rattle.lucid_scope.specs.Bindings.{HasNoFault, IsLeastFault, AreInputs, IsResolved}
 use Rattle.lucid_scope.specs.Scoped.{scoped_tree, scoped_inputs, scoped_binding}
@@ -37,7 +37,7 @@ pub record Spelt (source : List ℕ) (p : PlainTree) : Type 0 where
 -- The text of a source is refused so, by the scanner or, where it has tokens, by the parser.
 pub data RefusesText (source : List ℕ) (why : Refusal) : Type 0 where
   by_scan : (e : ScanRefusal) → scan_stop e ≡ stop.Refused why → Refuses source e → RefusesText source why
-  by_parse : (e : ParseRefusal) (tokens : List Token) → parse_stop e ≡ stop.Refused why → HasTokens source tokens → IsRefused source tokens e
+  by_parse : (e : ParseRefusal) (tokens : List Token) → parse_stop e ≡ stop.Refused why → HasTokens source tokens → IsSourceRefused source tokens e
       → RefusesText source why
 
 -- The names of a tree are refused so: it is the fault at the least place.

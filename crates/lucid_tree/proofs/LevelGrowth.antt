@@ -40,12 +40,3 @@ module _ {K X : Type 0} (value : (m : ℕ) → Below K X → X → (time space :
         | inl l ↦ approximation-grows w g n x t s v (approximation-up w g m n l x t s v d)
         | inr z ↦ subst (λ k. approximation value g k x t s ≡ Some v) z d
       ]
-
-  pub below-up : Grows → (g : Given K) (m n : ℕ) → m ≤ n → (a : Target K X) (s : ℕ) → Keeps (below value g m a s) (below value g n a s)
-  below-up w g m zero h a s v d =
-      let z : m ≡ 0 = omega arith in subst (λ k. below value g k a s ≡ Some v) z d
-  below-up w g m (suc n) h a s v d =
-      elim (last_or_less m n h) [
-        | inl l ↦ below-grows w g n a s v (below-up w g m n l a s v d)
-        | inr z ↦ subst (λ k. below value g k a s ≡ Some v) z d
-      ]

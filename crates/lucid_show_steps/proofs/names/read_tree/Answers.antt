@@ -1,7 +1,7 @@
 use Rattle.std.proofs.Common.{subst}
 use Rattle.std.proofs.lemmas.Result.{err_from_is_err_and}
 use Rattle.lucid_top.specs.Judged.{HasTokens}
-use Rattle.lucid_parse.specs.Spelled.{IsRefused}
+use Rattle.lucid_parse.specs.Spelled.{IsSourceRefused}
 use Rattle.lucid_top.proofs.Refusing.{scan_refuses, parse_refuses}
 use Rattle.lucid_show_steps.proofs.names.read_tree.Goals as goal
 
@@ -17,5 +17,5 @@ returns-in_err-tree-clause-refused c =
     record { short = c.in_ok-tokens.ensures.short; listed = c.in_ok-tokens.ensures.tokens } in
     rw (p.1, p.2) (
     parse_refuses c.args.source.now c.in_ok-tokens.tokens.items c.in_err-tree.field-0.0 scanned
-    (subst (λ ts. IsRefused c.args.source.now ts c.in_err-tree.field-0.0) c.deref.ensures.value c.in_err-tree.ensures.refused)
+    (subst (λ ts. IsSourceRefused c.args.source.now ts c.in_err-tree.field-0.0) c.deref.ensures.value c.in_err-tree.ensures.refused)
     )

@@ -1,5 +1,5 @@
 use Rattle.lucid_top.proofs.Common.{subst, err_from_is_err_and, HasTokens}
-use Rattle.lucid_parse.specs.Spelled.{SpellsTree, IsRefused}
+use Rattle.lucid_parse.specs.Spelled.{SpellsTree, IsSourceRefused}
 use Rattle.lucid_top.proofs.Refusing.{scan_refuses, parse_refuses}
 use Rattle.lucid_top.proofs.Within.{places_within}
 use Rattle.lucid_top.proofs.judging.read_tree.Goals as goal
@@ -16,7 +16,7 @@ returns-in_err-tree-clause-refused c =
     record { short = c.in_ok-tokens.ensures.short; listed = c.in_ok-tokens.ensures.tokens } in
     rw (p.1, p.2) (
     parse_refuses c.args.source.now c.in_ok-tokens.tokens.items c.in_err-tree.field-0.0 scanned
-    (subst (λ ts. IsRefused c.args.source.now ts c.in_err-tree.field-0.0) c.deref.ensures.value c.in_err-tree.ensures.refused)
+    (subst (λ ts. IsSourceRefused c.args.source.now ts c.in_err-tree.field-0.0) c.deref.ensures.value c.in_err-tree.ensures.refused)
     )
 
 pub returns-clause-placed : goal.returns-clause-placed

@@ -1,4 +1,4 @@
-use Rattle.lucid_demand.proofs.Common.{sym, ap, subst, EngineView, IsSound, AreAskable, ReadsWithin, Evaluating, Demanded}
+use Rattle.lucid_demand.proofs.Common.{sym, ap, subst, EngineView, IsSoundEngine, AreAskable, ReadsWithin, Evaluating, Demanded}
 use Rattle.lucid_demand_steps.proofs.Reading.{inputs_within}
 use Rattle.lucid_demand.proofs.Demanding.{demanded}
 use Rattle.lucid_demand.proofs.engine.Engine.demand_at.Goals as goal
@@ -8,7 +8,7 @@ invariant_of-self g c =
     let ask = subst (λ (o : EngineView). AreAskable o.streams (g.P.Places.world c.args.places.now)) (sym c.self.view_is) c.requires.inputs in
     let within = subst (λ (x : Evaluating). ReadsWithin x.engine) (ap (λ x. x.evaluation) c.self-inside.view_is)
     (inputs_within c.keeps_within.ensures c.self-inside.inside.0.0.inputs) in (
-      subst (λ (x : Evaluating). IsSound x.engine) (sym (ap (λ x. x.evaluation) c.self-inside.view_is))
+      subst (λ (x : Evaluating). IsSoundEngine x.engine) (sym (ap (λ x. x.evaluation) c.self-inside.view_is))
           (demanded _ _ _ _ _ _ _ _ c.self.invariant.0 ask within c.demand-answer.ensures).sound,
       c.clear.ensures,
     )
