@@ -1,7 +1,9 @@
 -- Ages that are passed by the block.
-use Rattle.lucid_store.proofs.Common.{◌≡◌, ℕ, zero, suc, ◌+◌, ◌-◌, ◌≤◌, ◌<◌, true, List, [], ◌∷◌, ◌++◌, length, take, drop, Option, Some, None, sym, subst, ◌∙◌, arith, AllWithin, nat_le, nat_tests, append-nil, length-take-le, get_or-take, ap}
+use Rattle.lucid_store.proofs.Common.{◌≡◌, ℕ, ◌+◌, ◌-◌, ◌≤◌, ◌<◌, true, List, length, take, drop, Option, Some, None, subst, ◌∙◌, arith, AllWithin, nat_le, append-nil, length-take-le, get_or-take, ap}
 use Rattle.std.proofs.Common.{slice_index_or, slice_range}
+use Rattle.std.proofs.lemmas.Bool.{leb-true}
 use Rattle.std.proofs.lemmas.List.{get_or-drop, length-drop}
+use Rattle.std.proofs.lemmas.List.Sums.{AllPass-from_list_all}
 use Rattle.std.specs.List.{list_all}
 use Rattle.lucid_store.specs.Ages.{IsLastOver}
 use Rattle.lucid_store.proofs.AgeLemmas.{over_there}
@@ -9,9 +11,8 @@ use Rattle.lucid_store.proofs.Besides.{joined_within}
 
 -- ages that all pass the test are within the limit
 all_young : (limit : ℕ) (ages : List ℕ) → list_all (λ age. nat_le age limit) ages ≡ true → AllWithin (λ age. age ≤ limit) ages 0 (length ages)
-all_young limit [] h k d low high = absurd (omega (arith, high))
-all_young limit (age ∷ ages) h zero d low high = grind (arith, nat_tests, h)
-all_young limit (age ∷ ages) h (suc k) d low high = all_young limit ages (grind (arith, h)) k d (omega arith) (omega (arith, high))
+all_young limit ages h k d low high =
+    leb-true (slice_index_or ages k d) limit (AllPass-from_list_all (λ age. nat_le age limit) ages h k d high)
 
 -- a block that passes the test has none over the limit
 pub block_is_young : (limit start end : ℕ) (ages : List ℕ) → end ≤ length ages → list_all (λ age. nat_le age limit) (slice_range ages start end) ≡ true
@@ -22,7 +23,7 @@ block_is_young limit start end ages inside h k d low high =
     let below : j < end - start = omega (arith, low, high) in
     let long : length (slice_range ages start end) ≡ end - start = length-take-le (end - start) (drop start ages) (omega (arith, length-drop start ages, inside)) in
     let read : slice_index_or (slice_range ages start end) j d ≡ slice_index_or ages k d =
-        get_or-take (end - start) (drop start ages) j d below ∙ get_or-drop start ages j d ∙ ap (λ i. slice_index_or ages i d) there in
+    get_or-take (end - start) (drop start ages) j d below ∙ get_or-drop start ages j d ∙ ap (λ i. slice_index_or ages i d) there in
     subst (λ age. age ≤ limit) read (all_young limit (slice_range ages start end) h j d (omega arith) (omega (arith, long, below, inside)))
 
 -- what is found in front of ages that are within the limit is found among all

@@ -4,7 +4,7 @@ use Rattle.std.proofs.Common.{◌≢◌, inl, inr}
 use Rattle.std.proofs.lemmas.List.{append_cancel_right}
 use Rattle.std.specs.Prelude.{nat_lt}
 use Rattle.std.proofs.lemmas.Bool.{cases_eq, cases_lt, cond-true, cond-false, lt-ltb, le-ltb}
-use Rattle.futures.specs.LinkedLists.{LinkedLists, items, list_of, list_count, key_limit, without, IsIn, IsApart, Moves, SameLists}
+use Rattle.futures.specs.LinkedLists.{LinkedLists, items, list_of, key_limit, without, IsIn, IsApart, Moves}
 use Rattle.futures.proofs.LinkLemmas.{without_absent, without_head}
 use Rattle.futures.proofs.LinkedListsLemmas.{owned_within}
 use Rattle.lucid_store.specs.Touches.{Touches, IsOrderOf, IsSoundOrder, IsFirstGone, last_item, place_to_end}
@@ -44,9 +44,6 @@ module _ (lists mid new : LinkedLists) (count latest place : ℕ) (s : IsSoundOr
     order = subst (IsOrderOf count) (sym brought_places) (order_touched_place count place (items lists 0) s.order low);
     last_is = λ some. ap last_item joined ∙ last_push (items mid 0) place;
   }
-
-  pub brought_room : key_limit new ≡ key_limit lists
-  brought_room = joins.limit ∙ leaves.limit
 
 -- ---- a place more
 
@@ -223,22 +220,3 @@ module _ (lists mid : LinkedLists) (count latest place : ℕ) (s : IsSoundOrder 
         pub others_gone : IsFirstGone place (order_in lists count) (order_in new (count - 1))
         others_gone = gone_from_more (order_in lists count) (order_in new (count - 1)) place rest.0 more rest.1
             (gone_places lists mid cut new (count - 1) latest place rest.0 sound rest.1 left leaves last_left last_leaves joined joins)
-
--- ---- none, and room for more
-
-pub made_sound : (lists : LinkedLists) → list_count lists ≡ 1 → ((list : ℕ) → items lists list ≡ []) → ((place : ℕ) → list_of lists place ≡ None)
-    → IsSoundOrder lists 0 0
-made_sound lists one none free = record {
-  one = one;
-  owned = λ q. free q ∙ sym (cond-false (nat_lt q 0) (Some 0) None (le-ltb q 0 (omega arith)));
-  order = subst (IsOrderOf 0) (sym (none 0)) order_none;
-  last_is = λ some. absurd (omega (arith, some));
-}
-
-pub reserved_sound : (lists new : LinkedLists) (count latest : ℕ) → IsSoundOrder lists count latest → SameLists lists new → IsSoundOrder new count latest
-reserved_sound lists new count latest s same = record {
-  one = same.count ∙ s.one;
-  owned = λ q. same.keys q ∙ s.owned q;
-  order = subst (IsOrderOf count) (sym (same.lists 0)) s.order;
-  last_is = λ some. ap last_item (same.lists 0) ∙ s.last_is some;
-}

@@ -182,12 +182,6 @@ touch_known es fs lost touched o p key i at distinct keys count sets had is = re
   count = count;
 }
 
-pub known_entries : (es fs : List (Key × Entry)) (o p : Option Touches) (key : Key) (i : ℕ) → place_of es key ≡ Some i → length fs ≡ length es
-    → IfSome o (IsOrderOfEntries es) → p ≡ option_map (touched_at i) o → IfSome p (λ t. IsOrderOf t.count t.places) → IfSome p (IsOrderOfEntries fs)
-known_entries es fs o p key i at len h is order =
-    subst (λ x. IfSome x (IsOrderOfEntries fs)) (sym is)
-    (touched_entries es fs key i at len o h (subst (λ x. IfSome x (λ t. IsOrderOf t.count t.places)) is order))
-
 -- a value is put under a key, whose place this is or becomes
 module _ (es fs : List (Key × Entry)) (key : Key) (i : ℕ) (o q : Option Touches) (h : IfSome o (IsOrderOfEntries es))
     (same : option_map placed q ≡ option_map placed o) (place : i ≡ position_or_len (same_key key) (keys_of es)) where
