@@ -1,5 +1,5 @@
 -- The call places of known contexts stay those of the program.
-use Rattle.lucid_cert_rules.proofs.FollowingCommon.{◌≡◌, ℕ, zero, suc, ◌<◌, List, [], ◌∷◌, ◌++◌, inl, inr, sym, subst, Context, call_frame, frozen_frame}
+use Rattle.lucid_cert_rules.proofs.FollowingCommon.{◌≡◌, ℕ, zero, suc, ◌<◌, List, [], ◌∷◌, ◌++◌, inl, inr, sym, subst, Context, call_frame}
 use Rattle.lucid_tags.specs.Known.{AddsAtMost}
 use Rattle.lucid_cert_rules.specs.Checking.{ArePlaces}
 
@@ -20,7 +20,3 @@ pub places_called : (places : ℕ) (old new : List Context) (place : ℕ) (calle
     → place < places → ArePlaces places old → ArePlaces places new
 places_called places old new place caller base added l =
     places_added places old new (call_frame place caller base) (λ at d e is. let same : place ≡ at = cc in subst (λ x. x < places) same l) added
-
-pub places_frozen : (places : ℕ) (old new : List Context) (time : ℕ) (base : Context) → AddsAtMost old new (frozen_frame time base) → ArePlaces places old
-    → ArePlaces places new
-places_frozen places old new time base = places_added places old new (frozen_frame time base) (λ at d e is. absurd (cc))

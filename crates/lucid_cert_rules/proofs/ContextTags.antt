@@ -1,10 +1,9 @@
 -- Contexts by tags.
-use Rattle.lucid_cert_rules.proofs.FollowingCommon.{◌≡◌, ℕ, zero, suc, ◌<◌, ◌≤◌, false, cond, List, [], ◌∷◌, ◌++◌, drop, length, Option, Some, None, get_or, ◌⊎◌, inl, inr, ◌+◌, refl, sym, ap, ◌∙◌, subst, nat_le, nat_lt, slice_get, le-leb, lt-ltb, same_Some, last, Context, root, call_frame, frozen_frame, context_of, context_in, contexts_behind, AreOfContexts, contexts_of, add-one, option_map, IfSome, drop-cons, map-append}
+use Rattle.lucid_cert_rules.proofs.FollowingCommon.{◌≡◌, ℕ, zero, suc, ◌<◌, List, [], ◌∷◌, ◌++◌, drop, length, Option, Some, None, get_or, ◌⊎◌, inl, inr, ◌+◌, refl, sym, ap, ◌∙◌, subst, slice_get, same_Some, Context, root, context_of, context_in, contexts_behind, AreOfContexts, contexts_of, add-one, option_map, IfSome, drop-cons, map-append}
 use Rattle.lucid_tags.specs.Known.{IsKnown, KeepsKnown}
 use Rattle.lucid_tags.specs.declared.Tag.{Tag}
 use Rattle.lucid_cert_rules.specs.declared.rows.ContextRow.{ContextRow}
-use Rattle.lucid_cert_rules.specs.declared.rows.ContextRow.TheVariants.{Call, Frozen}
-use Rattle.lucid_cert_rules.specs.Follows.{with_call, with_frozen, row_context}
+use Rattle.lucid_cert_rules.specs.Follows.{row_context}
 use Rattle.lucid_cert_rules.specs.Checking.{IsOfContext}
 
 -- an item that is there by its number
@@ -49,59 +48,6 @@ keeps_contexts old new [] k h = refl
 keeps_contexts old new (x ∷ xs) k h =
     let a = one_kept old new x k (λ tag e. (h 0 tag (ap Some e)).known_tag) in
     let b = keeps_contexts old new xs k (λ i tag e. h (suc i) tag e) in cc (a, b)
-
--- The context of a call's row,
-pub call_row : (places : ℕ) (old : List Context) (tags : List (Option Tag)) (new : List Context) (base place caller : ℕ) (b c made : Tag) → place < places
-    → Some b ≡ get_or tags base None → Some c ≡ get_or tags caller None
-    → context_of new made ≡ call_frame place (context_of old c) (context_of old b)
-    → Some (context_of new made) ≡ row_context places (contexts_of old tags) (Call base place caller)
-call_row places old tags new base place caller b c made l eb ec is =
-    ap Some is ∙ sym (ap (λ (x : Option Context). with_call places place x (context_in (contexts_of old tags) base)) (context_there old tags caller c ec)
-    ∙ (ap (with_call places place (Some (context_of old c))) (context_there old tags base b eb)
-    ∙ ap (λ x. cond x (Some (call_frame place (context_of old c) (context_of old b))) None) (lt-ltb place places l)))
-
-no_call : (places place : ℕ) (caller base : Option Context) → (caller ≡ None) ⊎ (base ≡ None) → None ≡ with_call places place caller base
-no_call places place None base h = refl
-no_call places place (Some c) None h = refl
-no_call places place (Some c) (Some b) (inl h) = absurd (cc)
-no_call places place (Some c) (Some b) (inr h) = absurd (cc)
-
-pub no_caller : (places : ℕ) (old : List Context) (tags : List (Option Tag)) (base place caller : ℕ) → None ≡ get_or tags caller None
-    → None ≡ row_context places (contexts_of old tags) (Call base place caller)
-no_caller places old tags base place caller e = no_call places place _ _ (inl (context_lacks old tags caller e))
-
-pub no_base : (places : ℕ) (old : List Context) (tags : List (Option Tag)) (base place caller : ℕ) → None ≡ get_or tags base None
-    → None ≡ row_context places (contexts_of old tags) (Call base place caller)
-no_base places old tags base place caller e = no_call places place _ _ (inr (context_lacks old tags base e))
-
-not_a_place : (places place : ℕ) (caller base : Option Context) → nat_lt place places ≡ false → None ≡ with_call places place caller base
-not_a_place places place None base h = refl
-not_a_place places place (Some c) None h = refl
-not_a_place places place (Some c) (Some b) h = sym (ap (λ x. cond x (Some (call_frame place c b)) None) h)
-
-pub no_place : (places : ℕ) (old : List Context) (tags : List (Option Tag)) (base place caller : ℕ) → nat_lt place places ≡ false
-    → None ≡ row_context places (contexts_of old tags) (Call base place caller)
-no_place places old tags base place caller h = not_a_place places place _ _ h
-
--- and of a frozen time's.
-pub frozen_row : (places : ℕ) (old : List Context) (tags : List (Option Tag)) (new : List Context) (base time : ℕ) (b made : Tag)
-    → Some b ≡ get_or tags base None → time ≤ last
-    → context_of new made ≡ frozen_frame time (context_of old b) → Some (context_of new made) ≡ row_context places (contexts_of old tags) (Frozen base time)
-frozen_row places old tags new base time b made e l is =
-    ap Some is ∙ sym (ap (with_frozen time) (context_there old tags base b e)
-    ∙ ap (λ x. cond x (Some (frozen_frame time (context_of old b))) None) (le-leb time last l))
-
-no_time : (time : ℕ) (base : Option Context) → nat_le time last ≡ false → None ≡ with_frozen time base
-no_time time None h = refl
-no_time time (Some b) h = sym (ap (λ x. cond x (Some (frozen_frame time b)) None) h)
-
-pub frozen_past : (places : ℕ) (old : List Context) (tags : List (Option Tag)) (base time : ℕ) → nat_le time last ≡ false
-    → None ≡ row_context places (contexts_of old tags) (Frozen base time)
-frozen_past places old tags base time h = no_time time _ h
-
-pub frozen_nowhere : (places : ℕ) (old : List Context) (tags : List (Option Tag)) (base time : ℕ) → None ≡ get_or tags base None
-    → None ≡ row_context places (contexts_of old tags) (Frozen base time)
-frozen_nowhere places old tags base time e = sym (ap (with_frozen time) (context_lacks old tags base e))
 
 -- one more context
 pub push_contexts : (places : ℕ) (old new : List Context) (tags more : List (Option Tag)) (made : Option Tag) (r : ContextRow) (rs : List ContextRow)

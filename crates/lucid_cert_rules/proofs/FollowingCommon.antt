@@ -16,13 +16,13 @@ pub use Rattle.lucid_ops.specs.declared.op.Op.{Op}
 pub use Rattle.lucid_tags.specs.Contexts.{Context, call_frame, frozen_frame, root}
 pub use Rattle.lucid_tags.specs.Known.{context_of}
 pub use Rattle.lucid_tree.specs.Levels.{Elements, element_of, goes_to, nowhere}
-pub use Rattle.lucid_tree.specs.Rows.{Look, Plan, at_zero, by_test, count_true, find_true, gives, gives_part, last, looks, plan}
+pub use Rattle.lucid_tree.specs.Rows.{Look, Plan, find_true, gives, last, looks, plan}
 pub use Rattle.lucid_tree.specs.Tree.{Head, apply}
 pub use Rattle.lucid_value.specs.Plain.{PlainValue}
 pub use Rattle.lucid_cert_rules.specs.Certificates.{PlainJudgment}
 pub use Rattle.std.proofs.Common.{Bool, List, None, Option, Some, [], add-one, ap, append_assoc, arith, cond, drop, false, get_or, inl, inr, length, refl, subst, suc, sym, true, zero, ℕ, ◌++◌, ◌+◌, ◌-◌, ◌<◌, ◌↔◌, ◌∙◌, ◌∷◌, ◌≡◌, ◌≤◌, ◌⊎◌}
 pub use Rattle.std.proofs.Math.Seq.{drop-cons}
-pub use Rattle.std.proofs.lemmas.Bool.{and_parts, cases_order, eqb-true, le-leb, lt-ltb, ltb-true}
+pub use Rattle.std.proofs.lemmas.Bool.{and_parts, cases_order, eqb-true, le-leb, ltb-true}
 pub use Rattle.std.proofs.lemmas.List.{append-nil, map-append}
 pub use Rattle.std.proofs.lemmas.Option.{cond_some, option_and_then_some, same_Some}
 pub use Rattle.std.specs.Option.{option_and_then}

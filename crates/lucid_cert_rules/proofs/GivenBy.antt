@@ -98,11 +98,3 @@ follows_where T b cs js i j c it there form h = (
       let Q : Context → Type 0 = λ x. given T b (used cs js i) j.node x j.time j.space j.uses ≡ Some j.value in
       h.1 (subst Q context (subst P same f.gives)),
 )
-
--- One that has no form doesn't follow.
-pub follows_not : (T : Table) (b : Elements) (cs : List (Option Context)) (js : List PlainJudgment) (i : ℕ) (j : PlainJudgment) → slice_get js i ≡ Some j
-    → ((c : Context) → HasForm T cs j c → ⊥)
-    → FollowsIn T b cs js i → ⊥
-follows_not T b cs js i j there none f =
-    let same : f.judgment ≡ j = same_Some f.judgment j (sym f.there ∙ there) in
-    let P : PlainJudgment → Type 0 = λ x. HasForm T cs x f.context in none f.context (subst P same f.form)

@@ -1,10 +1,10 @@
 -- What is left of a plan once a look has a value is the plan of the step that the form takes by what the value tells.
-use Rattle.lucid_cert_rules.proofs.FollowingCommon.{◌≡◌, ℕ, suc, ◌-◌, false, true, List, refl, sym, ap, ◌∙◌, subst, arith, le-leb, PlainValue, Op, Plan, gives, gives_part, by_test, at_zero, find_true, count_true, AreFedAlike, Then}
+use Rattle.lucid_cert_rules.proofs.FollowingCommon.{◌≡◌, ℕ, suc, ◌-◌, false, true, List, refl, sym, ap, ◌∙◌, subst, arith, le-leb, PlainValue, Plan, gives, find_true, AreFedAlike, Then}
 use Rattle.std.proofs.Common.{◌≤◌, Bool}
 use Rattle.std.specs.Prelude.{if◌then◌else◌}
 use Rattle.lucid_tree.specs.declared.form.Form.{Form}
 use Rattle.lucid_tree.specs.declared.form.Form.TheVariants as forms
-use Rattle.lucid_tree.specs.Rows.{nothing}
+use Rattle.lucid_tree.specs.Rows.{nothing, gives_part, by_test, at_zero, count_true}
 use Rattle.lucid_equations.specs.declared.answer.Answer.{Answer}
 use Rattle.lucid_equations.specs.declared.step.Place.{Place}
 use Rattle.lucid_equations.specs.declared.step.Step.{Step}
@@ -15,7 +15,7 @@ use Rattle.lucid_equations.proofs.Plans.{found_is}
 use Rattle.lucid_cert_rules.specs.RestPlans.{by_then}
 use Rattle.lucid_cert_rules.specs.Told.{at_limit, at_point, looked_from, told_plan}
 use Rattle.lucid_cert_rules.specs.declared.rest.Look.{Look}
-use Rattle.lucid_cert_rules.specs.declared.rest.Then.TheVariants.{Give, Judge, Decide, Find, Count, Argument}
+use Rattle.lucid_cert_rules.specs.declared.rest.Then.TheVariants.{Judge, Decide, Find, Count}
 use Rattle.lucid_cert_rules.proofs.Alike.{alike, alike_then}
 
 -- A count that goes on, within its limit.
@@ -125,9 +125,3 @@ module _ (most m : ℕ) (vs : List PlainValue) (i t s : ℕ) (v : PlainValue) (a
       both : by_test v (count_true (until - suc t) (suc t) (suc n) s until) (count_true (until - suc t) (suc t) n s until)
           ≡ by_test v (step_plan forms.Upon p (step.On true)) (step_plan forms.Upon p (step.On false))
       both = λ j. by_test v (sym (counts_on p true (omega arith)) j) (sym (counts_on p false (omega arith)) j)
-
-  pub goes_give : th ≡ Give → q ≡ gives v → GoesOn
-  goes_give e h = by Give e (alike most (by_then m vs Give i t s v) q (sym h))
-
-  pub goes_argument : (op : Op) → th ≡ Argument op → AreFedAlike most (by_then m vs (Argument op) i t s v) q → GoesOn
-  goes_argument op e h = by (Argument op) e h

@@ -7,7 +7,6 @@ use Rattle.lucid_equations.specs.NumberAims.{to_number, by_name_row, name_number
 use Rattle.lucid_equations.specs.Rows.{name_at}
 use Rattle.lucid_equations.specs.declared.rows.Entry.{Entry}
 use Rattle.lucid_equations.specs.declared.rows.Entry.TheVariants.{Current}
-use Rattle.lucid_cert_rules.specs.Follows.{Onward}
 
 -- a current name goes on with its body in the context without its frozen time, at that time
 pub current_goes : (T : Table) (n id : ℕ) (c outer : Context) (f t top : ℕ) → name_at T n ≡ Some (Current id) → c ≡ frozen_frame f (base_of c) → top ≡ frames c
@@ -29,15 +28,3 @@ few_frames T n level c t h = sym (ap (λ (z : Option Context). onward (name_numb
 pub few_to_call : (T : Table) (n at level : ℕ) (c : Context) (t : ℕ) → frames c < level
     → nowhere ≡ onward (name_number_aim T n (called_from at c (cut level c)) t)
 few_to_call T n at level c t h = sym (ap (λ (z : Option Context). onward (name_number_aim T n (called_from at c z) t)) (cut-above c level h))
-
--- where there are enough, a name's aim is that in the context of the outer frames, and a call's that in the context that it enters
-pub name_goes : (T : Table) (n level : ℕ) (c base : Context) (t : ℕ) (a : Onward) → cut level c ≡ Some base → a ≡ onward (name_number_aim T n (Some base) t)
-    → a ≡ onward (name_number_aim T n (cut level c) t)
-name_goes T n level c base t a h e = e ∙ sym (ap (λ (z : Option Context). onward (name_number_aim T n z t)) h)
-
-pub call_goes : (T : Table) (n at level : ℕ) (c base inner : Context) (t : ℕ) (a : Onward) → cut level c ≡ Some base → inner ≡ call_frame at c base
-    → a ≡ onward (name_number_aim T n (Some inner) t)
-    → a ≡ onward (name_number_aim T n (called_from at c (cut level c)) t)
-call_goes T n at level c base inner t a h i e =
-    e ∙ (ap (λ (z : Context). onward (name_number_aim T n (Some z) t)) i
-    ∙ sym (ap (λ (z : Option Context). onward (name_number_aim T n (called_from at c z) t)) h))

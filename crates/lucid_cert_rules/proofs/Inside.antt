@@ -27,7 +27,3 @@ times_added old new c f (inr e) h = subst AreTimes (sym e) (more_times old c f h
 pub times_called : (old new : List Context) (place : ℕ) (caller base : Context) → AddsAtMost old new (call_frame place caller base) → AreTimes old
     → AreTimes new
 times_called old new place caller base = times_added old new (call_frame place caller base) (λ t d e. absurd (cc))
-
-pub times_frozen : (old new : List Context) (time : ℕ) (base : Context) → time ≤ last → AddsAtMost old new (frozen_frame time base) → AreTimes old
-    → AreTimes new
-times_frozen old new time base l = times_added old new (frozen_frame time base) (λ t d e. let same : time ≡ t = cc in subst (λ x. x ≤ last) same l)

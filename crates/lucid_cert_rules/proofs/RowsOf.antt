@@ -7,7 +7,7 @@ use Rattle.std.proofs.lemmas.List.{map-append}
 use Rattle.std.proofs.lemmas.Option.{same_Some}
 use Rattle.lucid_tree.specs.Rows.{last}
 use Rattle.lucid_tags.specs.Contexts.{Context, root, call_frame, frozen_frame, frames, base_of, cut, context_at}
-use Rattle.lucid_tags.specs.Known.{IsKnown, IsOneForOne, IsInnermost, HasLowerCaller, context_of, number_of}
+use Rattle.lucid_tags.specs.Known.{IsKnown, IsInnermost, HasLowerCaller, context_of, number_of}
 use Rattle.lucid_tags.specs.declared.Frame.{Frame}
 use Rattle.lucid_tags.specs.declared.Frame.TheVariants as tags
 use Rattle.lucid_tags.specs.declared.Tag.{Tag}
@@ -96,11 +96,6 @@ module _ (known : List Context) (tag outer : Tag) (level b : ℕ) (there : IsKno
 pub first_known : (known : List Context) → 0 < length known → context_at known 0 ≡ root → Some root ∷ [] ≡ known_before known 1
 first_known [] l e = absurd (omega (arith, l))
 first_known (c ∷ cs) l e = ap (λ (x : Context). Some x ∷ []) (sym e)
-
-pub not_first : (known : List Context) (tag : Tag) → IsOneForOne known → IsKnown known tag → 0 < number_of tag → context_at known 0 ≡ root
-    → context_of known tag ≡ root → ⊥
-not_first known tag one there some first e =
-    let same : 0 ≡ number_of tag = one.places 0 (number_of tag) (omega (arith, there, some)) there (first ∙ sym e) in omega (arith, same, some)
 
 pub no_rows : (known : List Context) (rows : List ContextRow) → rows ≡ [] → 0 < length known → context_at known 0 ≡ root
     → ((places : ℕ) → ArePlaces places known → contexts_behind places (Some root ∷ []) rows ≡ known_before known 1)

@@ -56,6 +56,7 @@ impl Lines for WhyLines {
     fn lines_of_texts() {}
 
     fn add(&mut self, alloc: Global, line: &[u8]) -> Result<bool, AllocError> {
+        // For the proof: no text is that of two values.
         one_value();
         match read_row(alloc, line)? {
             Some(Row::Judgment(row)) => {
@@ -74,6 +75,7 @@ impl Lines for WhyLines {
     }
 
     fn is_whole(&self) -> bool {
+        // For the proof: no text is that of two values.
         one_value();
         !self.judgments.is_empty()
     }
@@ -85,6 +87,7 @@ pub fn read_why(alloc: Global, bytes: &[u8]) -> Result<Why, WhyRefusal>
     ensures refused { IfErr result (λ why. IsCertificateRefused bytes.now why) }
     ensures again { (w : PlainWhy) → IsTextOf bytes.now w → Gives result w }
 {
+    // For the proof: no text is that of two values, and none that of two certificates.
     one_value();
     one_why();
     let mut lines = WhyLines {
