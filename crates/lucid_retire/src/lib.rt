@@ -63,6 +63,7 @@ impl Retire for Keep {
         ensures turn { IsTurn true false None warehouse.old warehouse.new }
         ensures same { warehouse.new ≡ warehouse.old }
     {
+        // The clauses name the parameter, so it can't be called `_warehouse`: this line says that the body leaves it alone.
         let _ = warehouse;
     }
 }
