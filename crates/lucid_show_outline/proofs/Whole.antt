@@ -2,6 +2,7 @@
 use Rattle.std.proofs.Common.{◌≡◌, ℕ, zero, suc, ◌+◌, ◌-◌, ◌<◌, List, [], ◌∷◌, map, drop, length, Option, Some, None, refl, sym, ap, ◌∙◌, arith}
 use Rattle.std.specs.Prelude.{slice_get}
 use Rattle.std.specs.List.{AllByRecursion}
+use Rattle.std.proofs.lemmas.List.Elements.{All-drop, All-from_recursion, recursion_from_All}
 use Rattle.lucid_equations.specs.Rows.{row_at}
 use Rattle.lucid_equations.specs.declared.rows.Node.{Node}
 use Rattle.lucid_cert_rules.specs.Certificates.{PlainJudgment}
@@ -12,15 +13,10 @@ use Rattle.lucid_show_outline.specs.Equations.{by_judgment, by_node, does, done,
 use Rattle.lucid_show_outline.specs.Laws.{EquationsAreWhole, UsesAreEarlier}
 use Rattle.lucid_show_outline.proofs.Levels.{one_level}
 
-all_dropped : {X : Type 0} (P : X → Type 0) (n : ℕ) (xs : List X) → AllByRecursion P xs → AllByRecursion P (drop n xs)
-all_dropped P zero xs all = all
-all_dropped P (suc n) [] all = tt
-all_dropped P (suc n) (x ∷ xs) all = all_dropped P n xs all.1
-
 all_told : (P : ℕ → Type 0) (d : Does) (us : List ℕ) → AllByRecursion P us → AllByRecursion P (told_uses d us)
 unfolding told_uses
 all_told P Asks us all = tt
-all_told P (Searches p) us all = all_dropped P (length us - 1) us all
+all_told P (Searches p) us all = recursion_from_All P (drop (length us - 1) us) (All-drop P (length us - 1) us (All-from_recursion P us all))
 all_told P _ us all = all
 
 same_map : {X Y : Type 0} (f g : X → Y) (xs : List X) → AllByRecursion (λ x. f x ≡ g x) xs → map f xs ≡ map g xs
