@@ -1,7 +1,8 @@
 -- No box covers another.
 use Rattle.std.proofs.Common.{◌≡◌, ℕ, zero, suc, ◌+◌, ◌*◌, ◌<◌, ◌≤◌, inl, inr, List, [], ◌∷◌, ◌++◌, map, length, get_or, arith, refl, subst, ◌∙◌}
-use Rattle.std.specs.List.{AllByRecursion, AllPairs, Contains}
+use Rattle.std.specs.List.{All, AllByRecursion, AllPairs, Contains}
 use Rattle.std.specs.List.Sorted.{IsStrictlyIncreasing}
+use Rattle.std.proofs.lemmas.List.Elements.{All-append, All-cons, All-from_recursion, All-nil, All-weaker, recursion_from_All}
 use Rattle.std.proofs.lemmas.List.Kept.{AllPairs-from_increasing}
 use Rattle.std.proofs.Math.Nat.{mul-le-mul_right}
 use Rattle.lucid_show_grid.specs.declared.places.Frame.{Frame}
@@ -15,40 +16,26 @@ abbrev pub Pairs : {X : Type 0} → (X → X → Type 0) → List X → Type 0
 Pairs R [] = Unit {0}
 Pairs R (x ∷ xs) = AllByRecursion (R x) xs × Pairs R xs
 
-all_by_index : {X : Type 0} (P : X → Type 0) (xs : List X) → ((k : ℕ) (d : X) → k < length xs → P (get_or xs k d)) → AllByRecursion P xs
-all_by_index P [] h = tt
-all_by_index P (x ∷ xs) h = (h 0 x (omega arith), all_by_index P xs (λ k d b. h (suc k) d (omega arith)))
-
-at_index : {X : Type 0} (P : X → Type 0) (xs : List X) → AllByRecursion P xs → (k : ℕ) (d : X) → k < length xs → P (get_or xs k d)
-at_index P [] h k d b = absurd (omega arith)
-at_index P (x ∷ xs) h zero d b = h.0
-at_index P (x ∷ xs) h (suc k) d b = at_index P xs h.1 k d (omega arith)
-
 pub pairs_by_index : {X : Type 0} (R : X → X → Type 0) (xs : List X) → AllPairs R xs → Pairs R xs
 pairs_by_index R [] h = tt
 pairs_by_index R (x ∷ xs) h = (
-  all_by_index (R x) xs (λ j d b. h 0 (suc j) d (omega arith) (omega arith)),
+  recursion_from_All (R x) xs (λ j d b. h 0 (suc j) d (omega arith) (omega arith)),
   pairs_by_index R xs (λ i j d a b. h (suc i) (suc j) d (omega arith) (omega arith)),
 )
 
 pairs_at_index : {X : Type 0} (R : X → X → Type 0) (xs : List X) → Pairs R xs → AllPairs R xs
 pairs_at_index R [] h i j d a b = absurd (omega arith)
 pairs_at_index R (x ∷ xs) h i zero d a b = absurd (omega arith)
-pairs_at_index R (x ∷ xs) h zero (suc j) d a b = at_index (R x) xs h.0 j d (omega arith)
+pairs_at_index R (x ∷ xs) h zero (suc j) d a b = All-from_recursion (R x) xs h.0 j d (omega arith)
 pairs_at_index R (x ∷ xs) h (suc i) (suc j) d a b = pairs_at_index R xs h.1 i j d (omega arith) (omega arith)
-
-all_append : {X : Type 0} (P : X → Type 0) (xs ys : List X) → AllByRecursion P xs → AllByRecursion P ys → AllByRecursion P (xs ++ ys)
-all_append P [] ys h k = k
-all_append P (x ∷ xs) ys h k = (h.0, all_append P xs ys h.1 k)
-
-all_weaker : {X : Type 0} (P Q : X → Type 0) (xs : List X) → ((x : X) → P x → Q x) → AllByRecursion P xs → AllByRecursion Q xs
-all_weaker P Q [] f h = tt
-all_weaker P Q (x ∷ xs) f h = (f x h.0, all_weaker P Q xs f h.1)
 
 pairs_append : {X : Type 0} (R : X → X → Type 0) (xs ys : List X) → Pairs R xs → Pairs R ys → AllByRecursion (λ x. AllByRecursion (R x) ys) xs
     → Pairs R (xs ++ ys)
 pairs_append R [] ys h k c = k
-pairs_append R (x ∷ xs) ys h k c = (all_append (R x) xs ys h.0 c.0, pairs_append R xs ys h.1 k c.1)
+pairs_append R (x ∷ xs) ys h k c = (
+  recursion_from_All (R x) (xs ++ ys) (All-append (R x) xs ys (All-from_recursion (R x) xs h.0) (All-from_recursion (R x) ys c.0)),
+  pairs_append R xs ys h.1 k c.1,
+)
 
 -- times of a rising list stand in the order of their columns
 same_default : (ts : List ℕ) (i d e : ℕ) → i < length ts → get_or ts i d ≡ get_or ts i e
@@ -117,37 +104,37 @@ EndsAbove h p = p.place.y + 30 < h
 abbrev StandsBelow : ℕ → PlainPlaced → Type 0
 StandsBelow h p = h ≤ p.place.y
 
-each_below : (h : ℕ) (p : PlainPlaced) (ys : List PlainPlaced) → EndsAbove h p → AllByRecursion (StandsBelow h) ys → AllByRecursion (Behind p) ys
-each_below h p [] a b = tt
-each_below h p (q ∷ ys) a b = (inr (omega (arith, b.0)), each_below h p ys a b.1)
+one_above : (h : ℕ) (p q : PlainPlaced) → EndsAbove h p → StandsBelow h q → Behind p q
+one_above h p q a b = inr (omega arith)
 
-above : (h : ℕ) (xs ys : List PlainPlaced) → AllByRecursion (EndsAbove h) xs → AllByRecursion (StandsBelow h) ys
-    → AllByRecursion (λ x. AllByRecursion (Behind x) ys) xs
-above h [] ys a b = tt
-above h (x ∷ xs) ys a b = (each_below h x ys a.0 b, above h xs ys a.1 b)
+above : (h : ℕ) (xs ys : List PlainPlaced) → All (EndsAbove h) xs → All (StandsBelow h) ys → AllByRecursion (λ x. AllByRecursion (Behind x) ys) xs
+above h xs ys a b =
+    recursion_from_All (λ x. AllByRecursion (Behind x) ys) xs
+    (All-weaker (EndsAbove h) (λ x. AllByRecursion (Behind x) ys)
+    (λ p ends. recursion_from_All (Behind p) ys (All-weaker (StandsBelow h) (Behind p) (λ q begins. one_above h p q ends begins) ys b)) xs a)
 
 -- the boxes of a line and of lines stand between these heights
-line_ends : (f : Frame) (ts : List ℕ) (i h : ℕ) (ms : List PlainMark) → f.top + (88 + 64 * i) < h → AllByRecursion (EndsAbove h) (map (place_mark f ts i) ms)
+line_ends : (f : Frame) (ts : List ℕ) (i h : ℕ) (ms : List PlainMark) → f.top + (88 + 64 * i) < h → All (EndsAbove h) (map (place_mark f ts i) ms)
 unfolding place_at
-line_ends f ts i h [] lt = tt
-line_ends f ts i h (m ∷ ms) lt = (omega arith, line_ends f ts i h ms lt)
+line_ends f ts i h [] lt = All-nil (EndsAbove h)
+line_ends f ts i h (m ∷ ms) lt = All-cons (EndsAbove h) (place_mark f ts i m) (map (place_mark f ts i) ms) (omega arith) (line_ends f ts i h ms lt)
 
-line_begins : (f : Frame) (ts : List ℕ) (i h : ℕ) (ms : List PlainMark) → h ≤ f.top + (58 + 64 * i) → AllByRecursion (StandsBelow h) (map (place_mark f ts i) ms)
+line_begins : (f : Frame) (ts : List ℕ) (i h : ℕ) (ms : List PlainMark) → h ≤ f.top + (58 + 64 * i) → All (StandsBelow h) (map (place_mark f ts i) ms)
 unfolding place_at
-line_begins f ts i h [] le = tt
-line_begins f ts i h (m ∷ ms) le = (omega arith, line_begins f ts i h ms le)
+line_begins f ts i h [] le = All-nil (StandsBelow h)
+line_begins f ts i h (m ∷ ms) le = All-cons (StandsBelow h) (place_mark f ts i m) (map (place_mark f ts i) ms) (omega arith) (line_begins f ts i h ms le)
 
 lines_end : (f : Frame) (ts : List ℕ) (i h : ℕ) (ls : List PlainLine) → f.top + (24 + 64 * (i + length ls)) < h
-    → AllByRecursion (EndsAbove h) (place_lines f ts i ls)
-lines_end f ts i h [] lt = tt
+    → All (EndsAbove h) (place_lines f ts i ls)
+lines_end f ts i h [] lt = All-nil (EndsAbove h)
 lines_end f ts i h (l ∷ ls) lt =
-    all_append (EndsAbove h) (map (place_mark f ts i) l.marks) (place_lines f ts (i + 1) ls)
+    All-append (EndsAbove h) (map (place_mark f ts i) l.marks) (place_lines f ts (i + 1) ls)
     (line_ends f ts i h l.marks (omega arith)) (lines_end f ts (i + 1) h ls (omega arith))
 
-lines_begin : (f : Frame) (ts : List ℕ) (i h : ℕ) (ls : List PlainLine) → h ≤ f.top + (58 + 64 * i) → AllByRecursion (StandsBelow h) (place_lines f ts i ls)
-lines_begin f ts i h [] le = tt
+lines_begin : (f : Frame) (ts : List ℕ) (i h : ℕ) (ls : List PlainLine) → h ≤ f.top + (58 + 64 * i) → All (StandsBelow h) (place_lines f ts i ls)
+lines_begin f ts i h [] le = All-nil (StandsBelow h)
 lines_begin f ts i h (l ∷ ls) le =
-    all_append (StandsBelow h) (map (place_mark f ts i) l.marks) (place_lines f ts (i + 1) ls)
+    All-append (StandsBelow h) (map (place_mark f ts i) l.marks) (place_lines f ts (i + 1) ls)
     (line_begins f ts i h l.marks le) (lines_begin f ts (i + 1) h ls (omega arith))
 
 lines_apart : (f : Frame) (ts : List ℕ) (i : ℕ) (ls : List PlainLine) → IsStrictlyIncreasing ts → AllByRecursion (IsLineInOrder ts) ls
@@ -167,12 +154,12 @@ end_of : (y : ℕ) (p : PlainPanel) → y + (24 + 64 * (0 + length p.lines)) < b
 unfolding below height
 end_of y p = omega arith
 
-panels_begin : (y h : ℕ) (ps : List PlainPanel) → h ≤ y → AllByRecursion (StandsBelow h) (place_panels y ps)
-panels_begin y h [] le = tt
+panels_begin : (y h : ℕ) (ps : List PlainPanel) → h ≤ y → All (StandsBelow h) (place_panels y ps)
+panels_begin y h [] le = All-nil (StandsBelow h)
 panels_begin y h (p ∷ ps) le =
     let e : (frame_of y p).top ≡ y = top_of y p in
     let lt : y + (24 + 64 * (0 + length p.lines)) < below y p = end_of y p in
-    all_append (StandsBelow h) (place_lines (frame_of y p) p.times 0 p.lines) (place_panels (below y p) ps)
+    All-append (StandsBelow h) (place_lines (frame_of y p) p.times 0 p.lines) (place_panels (below y p) ps)
     (lines_begin (frame_of y p) p.times 0 h p.lines (omega arith)) (panels_begin (below y p) h ps (omega arith))
 
 panels_apart : (y : ℕ) (ps : List PlainPanel) → AllByRecursion IsInOrder ps → Pairs Behind (place_panels y ps)

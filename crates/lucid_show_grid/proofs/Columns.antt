@@ -5,6 +5,7 @@ use Rattle.std.specs.List.{AllByRecursion}
 use Rattle.std.proofs.lemmas.List.{length-replicate}
 use Rattle.std.proofs.Math.Nat.{mul-div-le, mul-le-mul_left}
 use Rattle.std.proofs.lemmas.List.{length-drop}
+use Rattle.std.proofs.lemmas.List.Elements.{All-drop, All-from_recursion, recursion_from_All}
 use Rattle.lucid_show_grid.specs.Grids.{PlainMark, PlainLine}
 use Rattle.lucid_show_grid.specs.declared.widths.Columns.{Columns}
 use Rattle.lucid_show_grid.specs.Fields.{blanks, left, right}
@@ -89,11 +90,6 @@ times_length n (t ∷ ts) h =
     let more : length (times_text n ts) ≡ n * length ts = times_length n ts h.1 in
     omega (arith, length-append (right n (decimal t)) (times_text n ts))
 
-all_drop : {X : Type 0} (P : X → Type 0) (k : ℕ) (xs : List X) → AllByRecursion P xs → AllByRecursion P (drop k xs)
-all_drop P zero xs h = h
-all_drop P (suc k) [] h = tt
-all_drop P (suc k) (x ∷ xs) h = all_drop P k xs h.1
-
 -- so many times as are shown have room
 room_for : (a b q : ℕ) → b * q ≤ 100 - a → a + b ≤ 100 → a + b * max q 1 ≤ 100
 room_for a b zero h fits = omega arith
@@ -142,7 +138,9 @@ shown_few c ts = dropped_few (max ((100 - c.labels) / c.values) 1) ts
 
 shown_fit : (m : ℕ) (c : Columns) (ts : List ℕ) → AllByRecursion (TimeFits m) ts → AllByRecursion (TimeFits m) (shown c ts)
 unfolding shown
-shown_fit m c ts h = all_drop (TimeFits m) (length ts - max ((100 - c.labels) / c.values) 1) ts h
+shown_fit m c ts h =
+    let left_out = length ts - max ((100 - c.labels) / c.values) 1 in
+    recursion_from_All (TimeFits m) (drop left_out ts) (All-drop (TimeFits m) left_out ts (All-from_recursion (TimeFits m) ts h))
 
 heads_within : (c : Columns) (ts : List ℕ) → 4 ≤ c.labels → c.labels + c.values ≤ 100 → AllByRecursion (TimeFits c.values) ts
     → length ts ≤ max ((100 - c.labels) / c.values) 1 → length (heads_text c ts) ≤ 101

@@ -2,7 +2,7 @@
 use Rattle.std.proofs.Common.{◌≡◌, ◌≢◌, ℕ, ◌<◌, List, [], ◌∷◌, ◌++◌, Bool, true, false, length, arith, refl, sym, ap, ◌∙◌}
 use Rattle.std.specs.Prelude.{◌==◌, ◌||◌, ◌&&◌, not, nat_lt, codes, slice_index_or, if◌then◌else◌}
 use Rattle.std.specs.List.{AllByRecursion}
-use Rattle.std.proofs.lemmas.Bool.{false≢true}
+use Rattle.std.proofs.lemmas.Bool.{and_parts, false≢true}
 use Rattle.lucid_show_grid.specs.Escapes.{escaped, escaped_byte}
 use Rattle.lucid_show_grid.specs.Laws.{EscapedIsPlain, EscapedNamesBytes, NamesBytes, byte_names}
 
@@ -20,10 +20,6 @@ abbrev all_safe : List ℕ → Bool
 all_safe [] = true
 all_safe (b ∷ bs) = is_safe b && all_safe bs
 
-both : (p q : Bool) → (p && q) ≡ true → (p ≡ true) × (q ≡ true)
-both true q e = (refl, e)
-both false q e = absurd (false≢true e)
-
 safe_from : (b : ℕ) → is_safe b ≡ true → Safe b
 safe_from b e = (
   λ x. false≢true (sym (ap is_safe x) ∙ e),
@@ -35,7 +31,7 @@ safe_from b e = (
 from_test : (bs : List ℕ) → all_safe bs ≡ true → AllSafe bs
 from_test [] e = tt
 from_test (b ∷ bs) e =
-    let p = both (is_safe b) (all_safe bs) e in
+    let p = and_parts (is_safe b) (all_safe bs) e in
     (safe_from b p.0, from_test bs p.1)
 
 by_test : (t : Bool) (xs ys : List ℕ) → (t ≡ true → AllSafe xs) → (t ≡ false → AllSafe ys) → AllSafe (if t then xs else ys)
@@ -72,7 +68,7 @@ no_mark (b ∷ bs) = not (b == 38) && no_mark bs
 front : (bs rest : List ℕ) → no_mark bs ≡ true → NamesBytes rest → NamesBytes (bs ++ rest)
 front [] rest e h = h
 front (b ∷ bs) rest e h =
-    let p = both (not (b == 38)) (no_mark bs) e in
+    let p = and_parts (not (b == 38)) (no_mark bs) e in
     ((λ x. absurd (false≢true (sym (ap (λ y. not (y == 38)) x) ∙ p.0))), front bs rest p.1 h)
 
 named : (k : ℕ) (name rest : List ℕ) → k < length byte_names → slice_index_or byte_names k name ≡ name → no_mark name ≡ true → NamesBytes rest
