@@ -6,6 +6,7 @@ use Rattle.std.specs.Ordering.{is_lt, nat_cmp, ordering_then, ordering_reverse}
 use Rattle.std.specs.List.Sorted.{IsSortedByKey}
 use Rattle.std.proofs.lemmas.Bool.Decides.{nat_tests}
 use Rattle.std.proofs.lemmas.List.Sorted.{ranks_by, sorted_far}
+use Rattle.std.proofs.lemmas.Map.Keys.{ge_from_not_lt}
 use Rattle.std.proofs.lemmas.Map.Lookups.{exact_unsigned}
 use Rattle.lucid_show_drawing.specs.declared.asked.Asked.{Asked}
 use Rattle.lucid_show_drawing.specs.declared.spot.Row.{Row}
@@ -36,9 +37,6 @@ then_equal Less s h = absurd (cc)
 then_equal Equal s h = (refl, h)
 then_equal Greater s h = absurd (cc)
 
-not_less : (x y : ℕ) → is_lt (nat_cmp x y) ≡ false → y ≤ x
-not_less x y h = grind (arith, nat_tests)
-
 same_number : (x y : ℕ) → x ≡ y → nat_cmp x y ≡ Equal
 same_number x y h = grind (arith, nat_tests)
 
@@ -64,7 +62,7 @@ exact_row (Test n s) (Test m t) h =
 
 later_context : (p q : Spot) → is_lt (spot_order.it p q) ≡ false → q.context ≤ p.context
 later_context p q h =
-    not_less p.context q.context (then_first (nat_cmp p.context q.context) (ordering_then (row_order.it p.row q.row) (nat_cmp p.time q.time)) h)
+    ge_from_not_lt p.context q.context (then_first (nat_cmp p.context q.context) (ordering_then (row_order.it p.row q.row) (nat_cmp p.time q.time)) h)
 
 later_row : (p q : Spot) → p.context ≡ q.context → is_lt (spot_order.it p q) ≡ false → is_lt (row_order.it p.row q.row) ≡ false
 later_row p q same h =

@@ -1,5 +1,5 @@
 -- Where cells are drawn, and arrows to them.
-use Rattle.lucid_show_drawing.proofs.Common.{◌≡◌, ℕ, ◌+◌, ◌<◌, Bool, true, false, ◌||◌, List, [], ◌∷◌, ◌++◌, length, get_or, take, drop, Option, Some, None, refl, sym, ap, subst, ◌∙◌, arith, MatchOption, slice_get, if◌then◌else◌, take_more, take_all, drop_more, append_assoc, append-nil, ◌≤◌}
+use Rattle.lucid_show_drawing.proofs.Common.{◌≡◌, ℕ, ◌+◌, ◌<◌, Bool, true, false, ◌||◌, List, [], ◌∷◌, ◌++◌, length, get_or, take, drop, Option, Some, None, refl, sym, ap, subst, ◌∙◌, arith, MatchOption, slice_get, if◌then◌else◌, take_more, drop_more, append_assoc, append-nil, ◌≤◌}
 use Rattle.std.specs.Option.{option_map, option_to_list}
 use Rattle.std.proofs.lemmas.List.{at_drop_more, drop_all, get_or-map, length-map}
 use Rattle.std.proofs.lemmas.List.Folds.{list_any-append}
@@ -84,11 +84,6 @@ place_one shown i d h old new is so_far =
     let long : i < length (cells_of shown) = omega (arith, length-map shown (λ (a : Asked). a.cell)) in
     place_more (cells_of shown) i d.cell long old new
     (λ c. is c ∙ ap (λ (q : Cell). if eq-value.it q c then Some i else old c) (sym (get_or-map (λ (a : Asked). a.cell) shown i d d.cell h))) so_far
-
-pub places_all : (cells : List Cell) (place : Cell → Option ℕ) → PlacesSoFar cells (length cells) place → ArePlaces cells place
-places_all cells place h c =
-    let P : List Cell → Type 0 = λ cs. MatchOption (place c) (is_among cs c ≡ false) (λ k. slice_get cells k ≡ Some c) in
-    subst P (take_all (length cells) cells (omega arith)) (h c)
 
 -- arrows by places go to the cells
 go_on : (drawn : List Cell) (from : ℕ) (c : Cell) (cs : List Cell) (more : List Arrow) (p : Option ℕ)

@@ -3,7 +3,7 @@ use Rattle.lucid_show_drawing.proofs.Common.{◌≡◌, ℕ, zero, suc, ◌+◌,
 use Rattle.std.specs.Prelude.{is_some, nat_lt}
 use Rattle.std.specs.Option.{option_and_then, option_map}
 use Rattle.std.proofs.lemmas.Bool.{and_parts, ltb-true}
-use Rattle.std.proofs.lemmas.List.{at_drop_more, length-map, map-append, take-map}
+use Rattle.std.proofs.lemmas.List.{at_drop_more, map-append, take-map}
 use Rattle.std.proofs.lemmas.List.Sorted.{All-permutation, IsPermutation-map}
 use Rattle.std.specs.List.Sorted.{IsPermutation}
 use Rattle.std.proofs.lemmas.List.Elements.{All-append, All-from_recursion, All-nil, All-cons, All-push, All-take, recursion_from_All}
@@ -159,9 +159,6 @@ shown_once v es all shown most are same =
 pub shown_asked : (v : View) (es : List Entry) (all shown : List Asked) (most : ℕ) → AreAsked v (told_whole es) all → IsPermutation (take most all) shown
     → All (IsAsked v) shown
 shown_asked v es all shown most are same = All-permutation (IsAsked v) (take most all) shown same (All-take (IsAsked v) most all are.each)
-
-pub how_many : (v : View) (es : List Entry) (all : List Asked) → AreAsked v (told_whole es) all → length all ≡ length (told_whole es)
-how_many v es all are = sym (length-map all (λ (a : Asked). a.number)) ∙ ap (λ (z : List ℕ). length z) are.same
 
 -- of what is chosen no more is told whole than of all
 told_if : (b : Bool) (e : Entry) (es : List Entry)

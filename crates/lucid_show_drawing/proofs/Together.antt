@@ -41,17 +41,6 @@ module _ {X K : Type 0} (key : X → K) where
   some_front (x ∷ xs) zero first at front = let is : x ≡ first = cc in absurd (front.ends x (omega arith) (ap key is))
   some_front (x ∷ xs) (suc n) first at front = omega arith
 
--- the first of all is the first of a front
-pub first_taken : {X : Type 0} (xs : List X) (n : ℕ) (first : X) → slice_get xs 0 ≡ Some first → 0 < n → slice_get (take n xs) 0 ≡ Some first
-first_taken [] n first at some = absurd (cc)
-first_taken (x ∷ xs) zero first at some = absurd (omega arith)
-first_taken (x ∷ xs) (suc n) first at some = at
-
-pub some_taken : {X : Type 0} (xs : List X) (n : ℕ) (first : X) → slice_get xs 0 ≡ Some first → 0 < n → 0 < length (take n xs)
-some_taken [] n first at some = absurd (cc)
-some_taken (x ∷ xs) zero first at some = absurd (omega arith)
-some_taken (x ∷ xs) (suc n) first at some = omega arith
-
 pub StandTogether-drop : (n : ℕ) (xs : List Asked) → StandTogether xs → StandTogether (drop n xs)
 StandTogether-drop n xs h = record {
   contexts = SideBySide-drop (λ (a : Asked). a.spot.context) n xs h.contexts;
