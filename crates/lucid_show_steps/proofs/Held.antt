@@ -1,5 +1,5 @@
 -- What stays held when a warehouse is looked at.
-use Rattle.std.proofs.Common.{◌≡◌, ℕ, zero, suc, ◌+◌, ◌<◌, true, false, List, Option, Some, None, is_some, length, get_or, take, refl, sym, ap, subst, ◌∙◌, ◌∷◌, [], ◌++◌, arith, add-one}
+use Rattle.std.proofs.Common.{◌≡◌, ℕ, zero, suc, ◌+◌, ◌<◌, false, List, Option, Some, None, is_some, length, get_or, take, refl, sym, ap, subst, ◌∙◌, ◌∷◌, [], ◌++◌, arith, add-one}
 use Rattle.std.specs.Prelude.{option_map, slice_get}
 use Rattle.std.proofs.lemmas.Option.{slice_get_past}
 use Rattle.std.proofs.Math.Seq.{take-suc}
@@ -12,9 +12,6 @@ use Rattle.lucid_store.specs.Entries.{value_at, held, IsTouched}
 use Rattle.lucid_store.proofs.CallerLemmas.{held-touched}
 use Rattle.lucid_show_steps.specs.Turns.{HoldsSame, AreGone}
 
-pub same : (w : Stored) → HoldsSame w w
-same w = record { held = λ key. refl; count = refl; lost = refl }
-
 pub same_then : (u v w : Stored) → HoldsSame u v → HoldsSame v w → HoldsSame u w
 same_then u v w first second = record {
   held = λ key. second.held key ∙ first.held key;
@@ -26,23 +23,12 @@ same_then u v w first second = record {
 pub same_touched : (old new : Stored) (key : Key) → IsTouched old new key → HoldsSame old new
 same_touched old new key touched = record { held = held-touched old new key touched; count = touched.count; lost = touched.lost }
 
--- the key last touched is forgotten
-pub same_taken : (old new : Stored) → new ≡ record old { touched = None } → HoldsSame old new
-same_taken old new is = subst (λ (w : Stored). HoldsSame old w) (sym is) (record { held = λ key. refl; count = refl; lost = refl })
-
 none_plain : (v : Option Value) → is_some v ≡ false → option_map plain v ≡ None
 none_plain None h = refl
 none_plain (Some v) h = cc
 
-some_plain : (v : Option Value) → is_some v ≡ true → option_map plain v ≡ None → ⊥
-some_plain None h none = cc
-some_plain (Some v) h none = cc
-
 pub none_held : (w : Stored) (key : Key) → is_some (value_at w key) ≡ false → held w key ≡ None
 none_held w key h = none_plain (value_at w key) h
-
-pub some_held : (w : Stored) (key : Key) → is_some (value_at w key) ≡ true → held w key ≡ None → ⊥
-some_held w key h none = some_plain (value_at w key) h none
 
 pub gone_stay : (u w : Stored) (keys : List Key) → HoldsSame u w → AreGone u keys → AreGone w keys
 gone_stay u w keys still gone = All-weaker (λ key. held u key ≡ None) (λ key. held w key ≡ None) (λ key none. still.held key ∙ none) keys gone
