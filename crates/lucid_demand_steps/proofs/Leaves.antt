@@ -8,8 +8,8 @@ use Rattle.lucid_equations.specs.Rows.{equations_of}
 use Rattle.lucid_equations.specs.declared.rows.Node.TheVariants as node
 use Rattle.lucid_equations.specs.Datons.{node_aim}
 use Rattle.lucid_demand_steps.specs.Parts.{IsReference}
-use Rattle.lucid_demand_steps.specs.declared.decision.Decision.TheVariants.{Part, Refer}
-use Rattle.lucid_demand_steps.proofs.Got.{value_is_got, none_is_idle}
+use Rattle.lucid_demand_steps.specs.declared.decision.Decision.TheVariants.{Part}
+use Rattle.lucid_demand_steps.proofs.Got.{value_is_got}
 use Rattle.lucid_demand_steps.proofs.Deciding.{decides_for}
 
 module _ (T : Table) (known : List Context) (forest : List (Option TaskRow)) (slot : ℕ) (its : TaskRow) (is : IsReadyRow T known forest slot its.task its) where
@@ -21,10 +21,7 @@ module _ (T : Table) (known : List Context) (forest : List (Option TaskRow)) (sl
       → Justified T known r (Constant k)
   constant_there k e range = (range.1, record { form = const (constant_at T k); nodes = _; is = e; along = at_start })
 
-  -- a reference: it asks for what it goes on with, or has that value
-  pub reference_refers : IsReference (node_of T r.task) → value_of_part r 0 ≡ None → Justified T known r (Refer its.task)
-  reference_refers i h = (i, refl, is.known_tag, none_is_idle known its 0 is.ready h)
-
+  -- a reference has the value that it asked for
   pub reference_has : IsReference (node_of T r.task) → is_none (got_of forest (record { slot = slot; index = 0 })) ≡ false → Justified T known r (Part 0)
   reference_has i h = go (got_of forest (record { slot = slot; index = 0 })) (value_is_got known forest slot its 0 is.there) h
     where
