@@ -1,3 +1,4 @@
+pub mod Arguments
 pub mod Refusals
 pub mod Status
 pub mod Lines

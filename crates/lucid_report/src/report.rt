@@ -223,10 +223,7 @@ fn write_figures<E: Sink>(report: &mut E, summary: Summary) -> Result<(), PortFa
 }
 
 /// Writes the line of what comes of a call, if there is one.
-pub fn write_outcome<E: Sink>(
-    report: &mut E,
-    outcome: &Result<Done, Stop>,
-) -> Result<(), PortFault>
+pub fn write_outcome<E: Sink>(report: &mut E, outcome: &Result<Done, Stop>) -> Result<(), PortFault>
     ensures { ReportsLine (outcome_line outcome.now) result (told E.written E.faults E.late report.old) (told E.written E.faults E.late report.new) }
 {
     match outcome {

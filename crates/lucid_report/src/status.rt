@@ -1,9 +1,11 @@
 //! How a call ends.
 ghost use Rattle.std.specs.Prelude.{◌≡◌};
+ghost use Rattle.std.specs.Process.{exit_status};
 ghost use Rattle.lucid_report.specs.Status.{code_of, refusal_status, stop_status, status_of};
 
 use crate::refusal::Refusal;
 use crate::stop::{Done, Stop};
+use std::process::ExitCode;
 
 /// How a call ends.
 #[derive(Clone, Copy, Debug, PartialEq, Eq)]
@@ -27,8 +29,8 @@ pub enum Status {
 }
 
 impl Status {
-    /// The exit code.
-    pub fn code(self) -> u8
+    // The number of the exit code.
+    fn code(self) -> u8
         ensures { result ≡ code_of self }
     {
         match self {
@@ -41,6 +43,13 @@ impl Status {
             Status::TooLarge => 6,
             Status::NoMemory => 7,
         }
+    }
+
+    /// The exit code.
+    pub fn exit_code(self) -> ExitCode
+        ensures { exit_status result ≡ code_of self }
+    {
+        ExitCode::from(self.code())
     }
 
     // The status of a refusal.
