@@ -1,5 +1,5 @@
 -- What stands about a place: the token before it, the one that begins there and the next one, each none where there is none.
-use Rattle.std.specs.Prelude.{ℕ, zero, suc, List, [], length, take, drop, slice_range, Option, None, Some, min, nat_lt}
+use Rattle.std.specs.Prelude.{ℕ, zero, suc, List, [], take, drop, slice_range, Option, None, Some, min, nat_lt}
 use Rattle.std.specs.List.{prefix_len, slice_get}
 use Rattle.lucid_scan.specs.declared.token.Token.{Token}
 use Rattle.lucid_explain_places.specs.declared.around.Around.{Around}

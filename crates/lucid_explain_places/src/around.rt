@@ -1,5 +1,5 @@
 //! The tokens about a place.
-ghost use Rattle.std.specs.Prelude.{◌≡◌, ◌≤◌, length, drop, take, min, slice_range};
+ghost use Rattle.std.specs.Prelude.{◌≡◌, ◌≤◌, length, slice_range};
 ghost use Rattle.std.specs.List.{slice_get};
 ghost use Rattle.lucid_scan.specs.Tokens.{Tokens};
 ghost use Rattle.lucid_explain_places.specs.Around.{plain_around, count_before, text_of, end_of, last_of, gap_behind, around_of, around_at};
@@ -42,6 +42,7 @@ fn text_of<'a>(source: &'a [u8], tokens: &[Token], number: usize) -> &'a [u8]
     requires { Tokens source.now 0 tokens.now }
     ensures { result.now ≡ text_of source.entry.now (slice_get tokens.now number) }
 {
+    // For the proof: no token ends before it begins, or past the source.
     tokens_are_in_order();
     if number < tokens.len() {
         token_text(source, &tokens[number])

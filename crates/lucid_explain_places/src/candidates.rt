@@ -1,11 +1,11 @@
 //! Which tokens may stand at a place.
-ghost use Rattle.std.specs.Prelude.{◌≡◌, ℕ, ◌-◌, ◌≤◌, List, ◌∷◌, ◌++◌, length, map, take, IfOk, OnOk, IsTrue, MatchOption};
+ghost use Rattle.std.specs.Prelude.{◌≡◌, ℕ, ◌-◌, ◌≤◌, List, ◌∷◌, ◌++◌, length, map, IfOk, OnOk, IsTrue, MatchOption};
 ghost use Rattle.std.specs.Option.{option_to_list};
 ghost use Rattle.lucid_scan.specs.Refusals.{most_source_bytes};
 ghost use Rattle.lucid_scan.specs.Tokens.{Tokens};
 ghost use Rattle.lucid_parse.specs.Spelled.{IsSourceRefused};
 ghost use Rattle.lucid_explain_places.specs.declared.candidates.Candidate.{Candidate as Told};
-ghost use Rattle.lucid_explain_places.specs.Standing.{GoesOn, IsBegun, MayStand, tried, text_and_told, AreFirst, AreStanding};
+ghost use Rattle.lucid_explain_places.specs.Standing.{GoesOn, IsBegun, tried, text_and_told, AreFirst, AreStanding};
 
 use lucid_parse::laws::terminals_are_unique;
 use lucid_parse::{ParseRefusal, parse};
@@ -107,6 +107,7 @@ fn tokens_go_on(alloc: Global, bytes: &[u8], tokens: &[Token]) -> Result<bool, A
     ensures yes { IfOk result (λ b. IsTrue b → GoesOn bytes.now) }
     ensures no { IfOk result (λ b. GoesOn bytes.now → IsTrue b) }
 {
+    // For the proof: tokens end in the source, and bytes have one list of them, which stand for one list of terminals.
     tokens_are_in_order();
     tokens_are_unique();
     terminals_are_unique();
@@ -124,6 +125,7 @@ fn goes_on(alloc: Global, bytes: &[u8]) -> Result<bool, AllocError>
     ensures yes { IfOk result (λ b. IsTrue b → IsBegun bytes.now) }
     ensures no { IfOk result (λ b. IsBegun bytes.now → IsTrue b) }
 {
+    // For the proof: bytes that have tokens are not refused.
     tokens_are_not_refused();
     match scan(alloc, bytes) {
         Ok(tokens) => tokens_go_on(alloc, bytes, &tokens),

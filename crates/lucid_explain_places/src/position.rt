@@ -18,8 +18,8 @@ fn count_ends(bytes: &[u8]) -> usize
     bytes.iter().filter(|byte| **byte == b'\n').count()
 }
 
-// How many bytes come after the last line end.
-fn len_of_last(bytes: &[u8]) -> usize
+/// How many bytes come after the last line end.
+pub fn len_of_line(bytes: &[u8]) -> usize
     ensures value { result ≡ suffix_len stands_in_line bytes.now }
     ensures within { result ≤ length bytes.now }
 {
@@ -41,6 +41,6 @@ pub fn position_of(source: &[u8], at: usize) -> Position
     let before = &source[..at];
     Position {
         line: count_ends(before) as u32 + 1,
-        column: len_of_last(before) as u32 + 1,
+        column: len_of_line(before) as u32 + 1,
     }
 }

@@ -6,7 +6,7 @@ ghost use Rattle.lucid_explain_places.specs.Positions.{stands_in_line};
 ghost use Rattle.lucid_explain_places.specs.Shown.{line_front, shown_byte, place_text};
 
 use crate::position::{Position, position_of};
-use itoa::Buffer;
+use crate::texts::put_number;
 use lucid_value::is_blank;
 use std::alloc::AllocError;
 
@@ -66,10 +66,8 @@ fn put_position(text: &mut Vec<u8>, file: &[u8], position: Position) -> Result<(
     ensures { OnOk result (text.new.items ≡ text.old.items ++ (file.now ++ (codes ":" ++ (decimal position.line ++ (codes ":" ++ (decimal position.column ++ codes ":\n")))))) }
 {
     text.extend_from_slice(file)?;
-    text.extend_from_slice(b":")?;
-    text.extend_from_slice(Buffer::new().format(position.line).as_bytes())?;
-    text.extend_from_slice(b":")?;
-    text.extend_from_slice(Buffer::new().format(position.column).as_bytes())?;
+    put_number(text, b":", u64::from(position.line))?;
+    put_number(text, b":", u64::from(position.column))?;
     text.extend_from_slice(b":\n")
 }
 
