@@ -1,5 +1,5 @@
 -- A maker as it begins, what waits innermost, and what keys are found.
-use Rattle.lucid_cert.proofs.Common.{◌≡◌, ℕ, zero, suc, ◌≤◌, Bool, true, false, cond, not, List, [], ◌∷◌, ◌++◌, length, Option, Some, None, refl, sym, ap, ◌∙◌, subst, arith, Result, Ok, Err, IfErr, IfSome, IsErrAnd, option_to_list, slice_get, find, same_Some, slice_get-push_same, Context, root, same_key, IsOneForOne, number_of, space_of, Key, EachBelow, Table, DemandFault, NoMemory, PlainJudgment, ArePlaces, AreTimes, Position, AreKeysOf, Each, IsJudgmentAt, IsSoundBy, Spot, spot_at, spot_by, spot_of, IsOwn, Making}
+use Rattle.lucid_cert.proofs.Common.{◌≡◌, ℕ, zero, suc, ◌≤◌, Bool, true, false, cond, List, [], ◌∷◌, ◌++◌, length, Option, Some, None, refl, sym, ap, ◌∙◌, subst, arith, Result, Ok, Err, IfErr, IfSome, IsErrAnd, option_to_list, slice_get, find, same_Some, slice_get-push_same, Context, root, same_key, IsOneForOne, number_of, space_of, Key, EachBelow, Table, DemandFault, NoMemory, PlainJudgment, ArePlaces, AreTimes, Position, AreKeysOf, Each, IsJudgmentAt, IsSoundBy, Spot, spot_at, spot_by, spot_of, IsOwn, Making}
 use Rattle.lucid_cert.proofs.Keeping.{each_fewer, judgment_of_key, same_spot}
 
 -- the empty context alone has no frozen time and no call place
@@ -63,11 +63,6 @@ pub judgment_found : (keys : List Key) (js : List PlainJudgment) (of : AreKeysOf
     → Some k ≡ find (same_key key) keys → spot_by key ≡ spot → IsJudgmentAt js spot i
 judgment_found keys js of key k i spot there found is =
     subst (λ s. IsJudgmentAt js s i) (sym (same_spot key k (found_key keys key k found)) ∙ is) (judgment_of_key keys js of i k there)
-
--- tests that are turned
-pub is_true : (b : Bool) → false ≡ not b → b ≡ true
-is_true true e = refl
-is_true false e = absurd (cc)
 
 -- want of memory is no refusal of an input
 pub own_memory : (r : Result (Unit {0}) DemandFault) → IsErrAnd r (λ e. e ≡ NoMemory) → IfErr r IsOwn

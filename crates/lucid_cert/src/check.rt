@@ -284,8 +284,9 @@ pub fn check_why<P: Places>(
     requires some { 0 < length why.now.judgments }
     ensures { Checked (table_of program.now) why.now inputs.old inputs.new (P.world places.old) (P.world places.new) result }
 {
-    // The names of the inputs differ, and so do the places of their streams.
+    // The names of the inputs differ.
     let _ = program.table();
+    // For the proof: no two streams are read from one place.
     lucid_inputs::places_differ();
     let mut tags = Tags::make(alloc);
     let contexts = enter_all(alloc, program, &mut tags, why.contexts.items())?;

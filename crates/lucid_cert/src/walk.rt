@@ -33,8 +33,9 @@ pub fn certify<P: Places>(
     ensures made { Made (table_of program.now) inputs.old inputs.new (P.world places.old) (P.world places.new) time result }
     ensures demanded { AsDemanded (table_of program.now) inputs.old inputs.new (P.world places.new) time limit result }
 {
-    // The names of the inputs differ, and so do the places of their streams.
+    // The names of the inputs differ.
     let _ = program.table();
+    // For the proof: no two streams are read from one place.
     lucid_inputs::places_differ();
     let mut maker = Maker::new(alloc, program);
     let root = maker.root(time);

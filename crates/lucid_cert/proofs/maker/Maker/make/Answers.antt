@@ -1,7 +1,8 @@
 use Rattle.lucid_cert.proofs.Common.{List, ℕ, refl, sym, ap, ◌∙◌, map, length, subst, arith, ◌<◌, AllByRecursion, map-append, length-map, plain, PlainJudgment, plain_judgment, GivesBy, judgments_of, table_in, Maker}
 use Rattle.lucid_tags.proofs.ListLemmas.{inserted-absent, inserted-present, none_passes}
+use Rattle.lucid_cert_rules.proofs.SameCells.{was_there}
 use Rattle.lucid_cert.proofs.Going.{follow_more, goes_made, goes_made_before}
-use Rattle.lucid_cert.proofs.Starting.{by_parts, is_true, placed}
+use Rattle.lucid_cert.proofs.Starting.{by_parts, placed}
 use Rattle.lucid_cert.proofs.maker.Maker.make.Goals as goal
 
 pub returns-then-not-added-clause-goes : goal.returns-then-not-added-clause-goes
@@ -10,7 +11,7 @@ returns-then-not-added-clause-goes c =
     goes_made_before c.args.self.now (record c.args.self.now { keys = c.insert.new.self }) refl refl
     (c.in_ok-added.ensures.keys ∙ inserted-present _ _ _ absent) refl c.args.at c.args.space c.key_of.result
     (by_parts c.key_of.result c.args.at c.args.space c.key_of.ensures.node c.key_of.ensures.context c.key_of.ensures.time c.key_of.ensures.space) refl
-    c.requires.sound (is_true _ absent)
+    c.requires.sound (was_there _ absent)
 
 pub returns-clause-goes : goal.returns-clause-goes
 returns-clause-goes c =
