@@ -45,16 +45,7 @@ same_values f (n ∷ args) i (v ∷ vs) (w ∷ ws) l h g =
     let one : v ≡ w = same_Some v w (sym h.0 ∙ g.0) in
     ap (λ x. x ∷ vs) one ∙ ap (λ xs. w ∷ xs) (same_values f args (suc i) vs ws (omega (arith, l)) h.1 g.1)
 
--- What an operator gives for these values, it gives for those that its arguments have.
-pub applied_value : {E : Type 0} (op : Op) (e : Evaluating) (slot : ℕ) (args : List ℕ → List ℕ) (ws : List PlainValue) (result : Result Value E)
-    → IfOk result (λ v. plain v ≡ algebra op ws)
-    → length ws ≡ arity op → ((rest : List ℕ) → HaveValues (value_of e slot) (args rest) 0 ws)
-    → IfOk result (λ v. (rest : List ℕ) → Applies e slot op (args rest) v)
-applied_value op e slot args ws (Ok v) is count got = λ rest vs l h. is
-    ∙ ap (algebra op) (sym (same_values (value_of e slot) (args rest) 0 vs ws (l ∙ sym count) h (got rest)))
-applied_value op e slot args ws (Err f) is count got = tt
-
--- So it is with the three in a list of three.
+-- What an operator gives for these values, it gives for those that its arguments have, where these stand in a list of three.
 pub applied_three : {E : Type 0} (op : Op) (e : Evaluating) (slot : ℕ) (args : List ℕ) → length args ≡ 3 → (x y z : PlainValue)
     → value_of e slot 0 (slice_index_or args 0 0) ≡ Some x → value_of e slot 1 (slice_index_or args 1 0) ≡ Some y
     → value_of e slot 2 (slice_index_or args 2 0) ≡ Some z

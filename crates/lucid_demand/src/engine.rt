@@ -68,8 +68,9 @@ impl<R: Retire, S: Pick> Engine<R, S> {
         }) }
         ensures sound { IfOk result (λ engine. IsSoundEngine engine) }
     {
-        // Each number in the table is of a row that is there, and no two streams are read from one place.
+        // Each number in the table is of a row that is there.
         let _ = program.table();
+        // No two streams are read from one place: so one that is read on leaves the others as they were.
         lucid_inputs::places_differ();
         Ok(Engine {
             evaluation: Evaluation {
@@ -99,7 +100,7 @@ impl<R: Retire, S: Pick> Engine<R, S> {
         requires { MayDemand self.old (P.world places.old) time space limit }
         ensures { Demanded self.old self.new (P.world places.old) (P.world places.new) time space limit result }
     {
-        // No stream is read on past the bytes that may be read.
+        // No stream is read on past the bytes that may be read: so it is when the demand begins.
         lucid_inputs::keeps_within();
         let answer = self.evaluation.demand(places, time, space, limit);
         self.evaluation.tasks.clear();
