@@ -17,7 +17,7 @@ use Rattle.lucid_demand_steps.proofs.FoundAims.{body_task, aim_refers, aim_goes,
 use Rattle.lucid_demand.specs.Naming.{MayAskBody}
 use Rattle.lucid_demand.proofs.TouchedKeys.{found_is_held, absent_is_no_stay}
 use Rattle.lucid_demand.proofs.GrownTags.{way_is_entered}
-use Rattle.lucid_demand.proofs.AskedParts.{EntersWay, may_ask_grown, may_ask_entered, may_ask_touched, costs_grown, asked_given, asked_refused, asked_too_deep, asked_turned, only_set, given_sets}
+use Rattle.lucid_demand.proofs.AskedParts.{EntersWay, may_ask_grown, may_ask_entered, may_ask_touched, costs_grown, asked_given, asked_refused, asked_too_deep, asked_turned, asked_from, only_set, given_sets}
 
 -- what is so of what a call gives, where it gave that
 at_ok : {A E : Type 0} (r : Result A E) (P : A → Type 0) (a : A) → r ≡ Ok a → IfOk r P → P a
@@ -179,7 +179,7 @@ module _ {F : Type 0} (old mid : Evaluating) (part : Option Part) (x : Task) (re
         may_later : MayAskFor i.demand later i.world part x n
         may_later = may_ask_grown i.demand looked i.world part x n may_looked known way.keeps (way.contexts may_looked.owns.contexts) entered
 
-        pub same_cost_later : cost i.demand later ≡ cost i.demand old
+        same_cost_later : cost i.demand later ≡ cost i.demand old
         same_cost_later = costs_grown i.demand looked i.world part x n may_looked known way.keeps ∙ same_cost_looked
 
         -- There was no memory for a context on its way.
@@ -189,8 +189,7 @@ module _ {F : Type 0} (old mid : Evaluating) (part : Option Part) (x : Task) (re
             (sym is_so)
             (asked_refused i.demand old later i.world part x n may_later same_cost_later rs)
 
-        -- It may be asked for.
-        pub may_ask_body : (y : Task) → plain_task known y ≡ passed looked.engine.table (plain_task looked.engine.known body) → IsKnown known y.tag
+        may_ask_body : (y : Task) → plain_task known y ≡ passed looked.engine.table (plain_task looked.engine.known body) → IsKnown known y.tag
             → MayAskBody i.demand later i.world part x y a.key
         may_ask_body y ends tag = record {
           least = n;
@@ -221,6 +220,12 @@ module _ {F : Type 0} (old mid : Evaluating) (part : Option Part) (x : Task) (re
                 (sym (task_as_tags_grow looked.engine.known known x way.keeps may_looked.tag))
                 (subst (λ k. P k its (passed T (plain_task looked.engine.known body)))
                 (sym (key_as_tags_grow looked.engine.known known a.key way.keeps aim_there.key_known)) p))
+
+        -- It may be asked for, and is.
+        pub body_asked : (y : Task) → plain_task known y ≡ passed looked.engine.table (plain_task looked.engine.known body) → IsKnown known y.tag
+            → (new : Evaluating) (res : Result (Option Value) DemandFault)
+            → (MayAskBody i.demand later i.world part x y a.key → AsksIn i.demand later new i.world part res) → AsksIn i.demand old new i.world part res
+        body_asked y ends tag new res asks = asked_from i.demand old later new i.world part res same_cost_later (asks (may_ask_body y ends tag))
 
 -- What it does to the row of a part, whoever asks.
 module _ {F : Type 0} (old mid looked : Evaluating) (x : Task) (result : Result (Option Aim) F) (finds : FindsAim old mid x result) (key : Key)

@@ -1,6 +1,6 @@
 -- The body of a reference that may be asked for: it may be where a key was touched. Where it is a name whose value is held, that value is put and
 -- given; where it isn't held, the new row asks for it.
-use Rattle.lucid_demand.proofs.Common.{ℕ, arith, inl, inr, List, [], ◌∷◌, Option, None, refl, sym, ap, ◌∙◌, subst, IsTrue, IsSome, Value, plain, In, Elements, Key, KeepsKnown, Task, TaskRow, Stored, IsTouched, value_at, World, PlainTask, DatonAt, plain_task, plain_key, plain_rows, RefersTo, EngineView, known_elements, holding, MayHave, Demand, Remembers, answers_over, work_over, Evaluating, cost, IsFor, MayAskFor, MayRefer, AsksIn, FindsAim, IsTurned, DemandFault, NoMemory, IsReference, node_of, equations_of, context_of, at_another, at_it, aim_of_task, plain_aim, IsAim, space_of}
+use Rattle.lucid_demand.proofs.Common.{ℕ, arith, inl, inr, List, [], ◌∷◌, Option, None, refl, sym, ap, ◌∙◌, subst, IsTrue, IsSome, Value, plain, Elements, Key, KeepsKnown, Task, TaskRow, Stored, IsTouched, value_at, World, PlainTask, DatonAt, plain_task, plain_key, plain_rows, RefersTo, EngineView, known_elements, holding, MayHave, Demand, Remembers, answers_over, work_over, Evaluating, cost, IsFor, MayAskFor, MayRefer, AsksIn, FindsAim, IsTurned, DemandFault, NoMemory, IsReference, node_of, equations_of, context_of, at_another, at_it, aim_of_task, plain_aim, IsAim, space_of}
 use Rattle.std.proofs.Common.{◌≡◌, ◌≢◌, ◌<◌, Some}
 use Rattle.std.specs.Prelude.{IfSome, Result, Ok, Err, option_map}
 use Rattle.lucid_tasks.specs.declared.Part.{Part}
@@ -23,7 +23,7 @@ use Rattle.lucid_demand.proofs.MayAsk.{reference_may_be_asked}
 use Rattle.lucid_demand.proofs.SettledRows.{on_going}
 use Rattle.lucid_demand.proofs.TouchedKeys.{found_is_held}
 use Rattle.lucid_demand.proofs.Turning.{owns_turned, waits_turned, answers_turned, emptied_turn, within_turn}
-use Rattle.lucid_demand.proofs.AskedParts.{may_ask_touched, asked_given, asked_row, asked_refused, asked_turned, given_sets, only_set}
+use Rattle.lucid_demand.proofs.AskedParts.{may_ask_touched, asked_given, asked_row, asked_refused, asked_turned, asked_from, given_sets, asked_sets, only_set, idle_seen}
 
 -- ---- where the store is another
 
@@ -70,13 +70,13 @@ module _ (d : Demand) (old new : Evaluating) (w : World) (part : Option Part) (x
   refers : RefersTo (table_of d) (plain_task old.engine.known y) daton
   refers = aim_refers (table_of d) old.engine.known (plain_task old.engine.known y) a leads there
 
-  abbrev looked : Evaluating
-  looked = record old { engine = record old.engine { stored = new.engine.stored } }
+  abbrev after_look : Evaluating
+  after_look = record old { engine = record old.engine { stored = new.engine.stored } }
 
-  body_there : MayAskBody d looked w part x y key
+  body_there : MayAskBody d after_look w part x y key
   body_there = body_touched d old w part x y key m new.engine.stored a.key l.touched
 
-  held : holding looked.engine daton.0 daton.1 ≡ Some (plain v)
+  held : holding after_look.engine daton.0 daton.1 ≡ Some (plain v)
   held = found_is_held d old.engine w new.engine.stored a.key m.may.owns l.touched (Some v) there.key_known l.value
 
   not_emptied : IsTrue d.first.empties → ⊥
@@ -87,27 +87,42 @@ module _ (d : Demand) (old new : Evaluating) (w : World) (part : Option Part) (x
     body = body_there;
     answers = λ b z.
         let stock = body_there.may.owns.stock.stock b z in
-        held-answers d b (holding looked.engine) looked.engine.stored.lost (plain_task old.engine.known y) daton (plain v) refers held not_emptied
+        held-answers d b (holding after_look.engine) after_look.engine.stored.lost (plain_task old.engine.known y) daton (plain v) refers held not_emptied
         stock.right stock.closed;
     holds = not_emptied;
   })
 
 -- ---- the body has a row, or there is no memory for one
 
-pub body_refused : (d : Demand) (e : Evaluating) (w : World) (part : Option Part) (x y : Task) (key : Key) → MayAskBody d e w part x y key
-    → (rs : List (Option TaskRow)) (res : Result (Option Value) DemandFault) → res ≡ Err NoMemory
-    → AsksIn d e (record { engine = e.engine; rows = rs }) w part res
-body_refused d e w part x y key m rs res is = subst (λ r. AsksIn d e (record { engine = e.engine; rows = rs }) w part r) (sym is)
-    (asked_refused d e e w part x m.least m.may refl rs)
+-- What is so where the engine is seen so.
+module _ (o old : Evaluating) (view : o ≡ old) (d : Demand) (w : World) (part : Option Part) (x y : Task) (key : Key)
+    (may : MayAskBody d old w part x y key) where
+  here : MayAskBody d o w part x y key
+  here = subst (λ z. MayAskBody d z w part x y key) (sym view) may
 
-pub body_has_row : (d : Demand) (e : Evaluating) (w : World) (part : Option Part) (x y : Task) (key : Key) → MayAskBody d e w part x y key
-    → (rs : List (Option TaskRow)) (slot : ℕ) → rows.IsPast e.rows slot → rows.Asks e.rows rs part slot y (Some key) → (o : Option Value) → o ≡ None
-    → AsksIn d e (record { engine = e.engine; rows = rs }) w part (Ok o)
-body_has_row d e w part x y key m rs slot past asks o stays =
-    subst (λ r. AsksIn d e (record { engine = e.engine; rows = rs }) w part (Ok r)) (sym stays)
-    (asked_row d e e w part x m.least m.may refl rs slot y (Some key) m.stands m.still m.lower m.tag m.key_tag m.wanted
-    (λ b z k is. subst (λ q. Remembers d b (plain_task e.engine.known y) q) (let same : plain_key e.engine.known key ≡ k = cc in same) (m.remembers b z))
-    past asks)
+  pub row_refused : (rs : List (Option TaskRow)) (res : Result (Option Value) DemandFault) → res ≡ Err NoMemory
+      → AsksIn d old (record { engine = o.engine; rows = rs }) w part res
+  row_refused rs res is = subst (λ r. AsksIn d old (record { engine = o.engine; rows = rs }) w part r) (sym is)
+      (asked_refused d old o w part x here.least here.may (ap (cost d) view) rs)
+
+  pub row_asked : (rs : List (Option TaskRow)) (slot : ℕ) → rows.IsPast o.rows slot → rows.Asks o.rows rs part slot y (Some key) → (r : Option Value)
+      → r ≡ None
+      → AsksIn d old (record { engine = o.engine; rows = rs }) w part (Ok r)
+  row_asked rs slot past asks r stays = subst (λ z. AsksIn d old (record { engine = o.engine; rows = rs }) w part (Ok z)) (sym stays)
+      (asked_row d old o w part x here.least here.may (ap (cost d) view) rs slot y (Some key) here.stands here.still here.lower here.tag here.key_tag
+      here.wanted
+      (λ b z k is. subst (λ q. Remembers d b (plain_task o.engine.known y) q) (let same : plain_key o.engine.known key ≡ k = cc in same)
+      (here.remembers b z)) past asks)
+
+-- The row of a new task is set for the part, where the engine is seen so.
+pub row_sets : (o old : Evaluating) → o ≡ old → (part : Option Part) (y : Task) (key : Option Key) → IfSome part (rows.IsIdlePart old.rows)
+    → (rs : List (Option TaskRow)) (slot : ℕ) → rows.IsPast o.rows slot → rows.Asks o.rows rs part slot y key
+    → IfSome part (SetsPart old (record { engine = o.engine; rows = rs }))
+row_sets o old view part y key idle rs slot past asks =
+    asked_sets old (record { engine = o.engine; rows = rs }) o.rows (ap (λ (e : Evaluating). e.rows) view)
+    (only_set o.engine old.engine old.engine.known old.engine.stored old.engine.noted (ap (λ (e : Evaluating). e.engine) view))
+    (subst (λ (e : Evaluating). KeepsKnown old.engine.known e.engine.known) (sym view) (record { known = λ tag h. h; same = λ tag h. refl }))
+    part slot y key idle past asks
 
 -- ---- the value is put under the reference's key, and given
 
@@ -211,7 +226,7 @@ module _ (d : Demand) (e : Evaluating) (w : World) (part : Option Part) (x y : T
         standing-answers d b (holding kept) stored.lost (plain_key e.engine.known key ∷ []) (plain_task e.engine.known y) its (plain v) g.body.stands
         (λ keeps none k is. elim is [
           | inl same ↦ subst (λ (q : DatonAt). IsSome (holding kept q.0 q.1)) (sym same) (put.there none)
-          | inr no ↦ absurd no
+          | inr none_other ↦ absurd none_other
         ])
         (answers_over d (holding later) (holding kept) later.stored.lost stored.lost put.more b (plain_task e.engine.known y) (plain v) (answers_body b z))
 
@@ -228,17 +243,17 @@ module _ (d : Demand) (e : Evaluating) (w : World) (part : Option Part) (x y : T
 -- ---- the new row's own first part is asked for
 
 -- the row of a name may ask for it, as its first part
-pub name_may_be_asked : (d : Demand) (e : Evaluating) (w : World) (part : Option Part) (x y : Task) (key : Key) → MayAskBody d e w part x y key
+name_may_be_asked : (d : Demand) (e : Evaluating) (w : World) (part : Option Part) (x y : Task) (key : Key) → MayAskBody d e w part x y key
     → (rs : List (Option TaskRow)) (slot : ℕ) → rows.IsPast e.rows slot → rows.Asks e.rows rs part slot y (Some key)
     → IsReference (node_of e.engine.table (plain_task e.engine.known y))
     → MayRefer d (record { engine = e.engine; rows = rs }) w (Some (record { slot = slot; index = 0 })) y
-name_may_be_asked d e w part x y key m rs slot past asks reference =
-    reference_may_be_asked d (record { engine = e.engine; rows = rs }) w m.may.demand asked.goes_on.0 asked.nothing (record { slot = slot; index = 0 })
+name_may_be_asked d e w part x y key may rs slot past asks names =
+    reference_may_be_asked d (record { engine = e.engine; rows = rs }) w may.may.demand asked.goes_on.0 asked.nothing (record { slot = slot; index = 0 })
     (rows.fresh y part (Some key)) (asks slot ∙ at_it slot slot (Some (rows.fresh y part (Some key))) _ refl) y refl
-    (subst (λ T. IsReference (node_of T (plain_task e.engine.known y))) m.may.owns.since.goes_on.table reference, refl, m.tag, refl)
+    (subst (λ T. IsReference (node_of T (plain_task e.engine.known y))) may.may.owns.since.goes_on.table names, refl, may.tag, refl)
   where
     asked : AsksIn d e (record { engine = e.engine; rows = rs }) w part (Ok None)
-    asked = body_has_row d e w part x y key m rs slot past asks None refl
+    asked = row_asked e e refl d w part x y key may rs slot past asks None refl
 
 -- What is asked for within the new row is asked for with it.
 pub asked_on : (d : Demand) (old mid new : Evaluating) (w : World) (part : Option Part) (sub : Part) (result : Result (Option Value) DemandFault)
@@ -256,16 +271,41 @@ asked_on d old mid new w part sub result a b = record {
     less None l n = tt
     less (Some q) l n = omega (arith, l, n)
 
+-- The body is a name, which was looked up and isn't held; then the engine is seen so.
+module _ (d : Demand) (old looked o : Evaluating) (w : World) (part : Option Part) (x y : Task) (key : Key) (may : MayAskBody d old w part x y key) (a : Aim)
+    (named : IsNamedAim old y a) (l : LooksUp old looked a.key None) (view : o ≡ looked) where
+  body_looked_up : MayAskBody d o w part x y key
+  body_looked_up = subst (λ z. MayAskBody d z w part x y key) (sym view) (body_looked d old looked w part x y key a.key None l may)
+
+  is_named : IsReference (node_of o.engine.table (plain_task o.engine.known y))
+  is_named = subst (λ (z : Evaluating). IsReference (node_of z.engine.table (plain_task z.engine.known y))) (sym (view ∙ l.only)) named.reference
+
+  absent : value_at o.engine.stored a.key ≡ None
+  absent = subst (λ (z : Evaluating). value_at z.engine.stored a.key ≡ None) (sym view)
+      (value_at-touched old.engine.stored looked.engine.stored a.key l.touched a.key ∙ sym l.value)
+
+  -- It has a row, which asks for the name's own body.
+  pub named_asked : (rs : List (Option TaskRow)) (slot : ℕ) → rows.IsPast o.rows slot → rows.Asks o.rows rs part slot y (Some key)
+      → (new : Evaluating) (result : Result (Option Value) DemandFault)
+      → (MayRefer d (record { engine = o.engine; rows = rs }) w (Some (record { slot = slot; index = 0 })) y → value_at o.engine.stored a.key ≡ None
+      → AsksIn d (record { engine = o.engine; rows = rs }) new w (Some (record { slot = slot; index = 0 })) result)
+      → AsksIn d old new w part result
+  named_asked rs slot past asks new result within =
+      asked_from d old looked new w part result (looked_cost d old looked a.key None l)
+      (asked_on d looked (record { engine = o.engine; rows = rs }) new w part (record { slot = slot; index = 0 }) result
+      (row_asked o looked view d w part x y key (body_looked d old looked w part x y key a.key None l may) rs slot past asks None refl)
+      (within (name_may_be_asked d o w part x y key body_looked_up rs slot past asks is_named) absent))
+
 -- what a name goes on with is its aim
 pub named_found : (o old : Evaluating) → o ≡ old → (y : Task) (n l : ℕ) (r : Option Aim)
     → node_of o.engine.table (plain_task o.engine.known y) ≡ reference (refer n l)
     → plain_aim o.engine.table o.engine.known r ≡ reference_aim (equations_of o.engine.table) (refer n l) (context_of o.engine.known y.tag) y.time
     → IfSome r (IsAim o.engine.table o.engine.known (space_of y.tag)) → IfSome r (IsNamedAim old y)
-named_found o old view y n l None is aim there = tt
-named_found o old view y n l (Some a) is aim there = subst (λ z. IsNamedAim z y a) view (record {
+named_found o old view y n l None is aim known = tt
+named_found o old view y n l (Some a) is aim known = subst (λ z. IsNamedAim z y a) view (record {
   reference = subst (λ z. IsReference z) (sym is) tt;
   leads = aim ∙ sym (ap (λ z. node_aim (equations_of o.engine.table) z (context_of o.engine.known y.tag) y.time) is);
-  there = there;
+  there = known;
 })
 
 -- an aim that was found
@@ -283,13 +323,11 @@ self_finds e y a named = record {
   one_for_one = λ one. one;
 }
 
--- it stays one after a look, and whatever rows there are
-pub named_looked : (old new : Evaluating) (y : Task) (a : Aim) → new ≡ record old { engine = record old.engine { stored = new.engine.stored } }
-    → IsNamedAim old y a → IsNamedAim new y a
-named_looked old new y a only named = subst (λ z. IsNamedAim z y a) (sym only) (record { reference = named.reference; leads = named.leads; there = named.there })
-
-pub named_with_rows : (e : Evaluating) (y : Task) (a : Aim) (rs : List (Option TaskRow)) → IsNamedAim e y a → IsNamedAim (record { engine = e.engine; rows = rs }) y a
-named_with_rows e y a rs named = record { reference = named.reference; leads = named.leads; there = named.there }
+-- it stays one after a look, whatever rows there are
+pub named_looked : (old mid o : Evaluating) (y : Task) (a : Aim) → mid ≡ record old { engine = record old.engine { stored = mid.engine.stored } }
+    → o ≡ mid → (rs : List (Option TaskRow)) → IsNamedAim old y a → IsNamedAim (record { engine = o.engine; rows = rs }) y a
+named_looked old mid o y a only view rs named = subst (λ (z : Evaluating). IsNamedAim (record { engine = z.engine; rows = rs }) y a) (sym (view ∙ only))
+    (record { reference = named.reference; leads = named.leads; there = named.there })
 
 -- the first part of a new row is idle
 pub new_part : (inner new : List (Option TaskRow)) (part : Option Part) (slot : ℕ) (y : Task) (key : Option Key) → rows.Asks inner new part slot y key
@@ -306,10 +344,6 @@ new_part inner new part slot y key asks = record {
 -- a look for what isn't held leaves the store as it may be
 pub looks_absent : (e : Evaluating) (key : Key) → value_at e.engine.stored key ≡ None → LooksUp e e key None
 looks_absent e key none = record { value = sym none; touched = absent_touched e.engine.stored key none; only = refl }
-
--- what was not found before a look isn't there after it
-pub still_absent : (old new : Evaluating) (key : Key) → LooksUp old new key None → value_at new.engine.stored key ≡ None
-still_absent old new key l = value_at-touched old.engine.stored new.engine.stored key l.touched key ∙ sym l.value
 
 -- ---- what is set of a part's row
 
@@ -333,7 +367,7 @@ others_stay inner new old same part slot y key past asks q there other =
     ∙ ap (λ rs. rows.row_at rs q) same
 
 -- What is asked for within a new row leaves what was set.
-pub within_sets : (old mid new : Evaluating) (part : Option Part) (slot : ℕ) → IfSome part (rows.IsIdlePart old.rows) → rows.IsPast old.rows slot
+within_sets : (old mid new : Evaluating) (part : Option Part) (slot : ℕ) → IfSome part (rows.IsIdlePart old.rows) → rows.IsPast old.rows slot
     → IfSome part (SetsPart old mid) → ((q : ℕ) → rows.IsRow mid.rows q → q ≢ slot → rows.row_at new.rows q ≡ rows.row_at mid.rows q)
     → new.engine ≡ record mid.engine { known = new.engine.known } → KeepsKnown mid.engine.known new.engine.known → IfSome part (SetsPart old new)
 within_sets old mid new None slot idle past s others only keeps = tt
@@ -350,6 +384,19 @@ within_sets old mid new (Some p) slot idle past s others only keeps = record {
     row_stays : (o : Option TaskRow) → IsSome o → IsSome (option_map (rows.with_part p.index s.state) o)
     row_stays None h = absurd (cc)
     row_stays (Some r) h = refl
+
+-- So it is where the name was looked up before, and the engine is seen so.
+pub named_sets : (old looked o new : Evaluating) (key : Key) (found : Option Value) → LooksUp old looked key found → o ≡ looked → (part : Option Part) (y : Task)
+    (k : Option Key) → IfSome part (rows.IsIdlePart old.rows) → (rs : List (Option TaskRow)) (slot : ℕ) → rows.IsPast o.rows slot
+    → rows.Asks o.rows rs part slot y k → ((q : ℕ) → rows.IsRow rs q → q ≢ slot → rows.row_at new.rows q ≡ rows.row_at rs q)
+    → new.engine ≡ record o.engine { known = new.engine.known } → KeepsKnown o.engine.known new.engine.known → IfSome part (SetsPart old new)
+named_sets old looked o new key found l view part y k idle rs slot past asks others only keeps =
+    looked_sets old looked new key found part l
+    (within_sets looked (record { engine = o.engine; rows = rs }) new part slot idle_looked
+    (subst (λ (e : Evaluating). rows.IsPast e.rows slot) view past) (row_sets o looked view part y k idle_looked rs slot past asks) others only keeps)
+  where
+    idle_looked : IfSome part (rows.IsIdlePart looked.rows)
+    idle_looked = idle_seen looked (record old { engine = record old.engine { stored = looked.engine.stored } }) part l.only idle
 
 -- What is put and given sets the part.
 pub put_sets : (old mid kept new : Evaluating) (part : Option Part) (v : Value) (rs : List (Option TaskRow)) → IsTurned old.engine mid.engine → mid.rows ≡ old.rows

@@ -91,7 +91,8 @@ impl<R: Retire, S: Pick> Evaluation<R, S> {
             return Err(DemandFault::TooDeep);
         }
         let body = moved_on(&self.program, &mut self.tags, aim.task(task.depth - 1))?;
-        self.tasks.ask(Some(Part { slot, index: 0 }), body, Some(aim.key))?;
+        self.tasks
+            .ask(Some(Part { slot, index: 0 }), body, Some(aim.key))?;
         Ok(())
     }
 

@@ -4,8 +4,8 @@ use Rattle.std.specs.Prelude.{IfSome, Ok}
 use Rattle.lucid_tasks.specs.Rows.{IsIdlePart}
 use Rattle.lucid_equations.specs.Programs.{table_of}
 use Rattle.lucid_demand.proofs.TakenParts.{gave_err}
-use Rattle.lucid_demand.proofs.AskedParts.{asked_from, on_ok, open_given}
-use Rattle.lucid_demand.proofs.AskedReferences.{seen_so, aim_body_there, aim_refused, nowhere_refused, look_refused, look_given, look_too_deep, body_refused, same_cost_later, may_ask_body, held_sets, body_sets}
+use Rattle.lucid_demand.proofs.AskedParts.{on_ok, open_given}
+use Rattle.lucid_demand.proofs.AskedReferences.{seen_so, aim_body_there, aim_refused, nowhere_refused, look_refused, look_given, look_too_deep, body_refused, body_asked, held_sets, body_sets}
 use Rattle.lucid_demand.proofs.turn.Evaluation.ask_reference.Goals as goal
 
 pub returns-in_err-aim-clause-asks : goal.returns-in_err-aim-clause-asks
@@ -84,18 +84,11 @@ returns-clause-sets g c =
 
 pub returns-clause-asks : goal.returns-clause-asks
 returns-clause-asks g c = λ i may.
-    asked_from i.demand c.args.self.now _ c.ask_body.new.self i.world c.args.part (gave c.ask_body.result c.ask_body.new.answer)
-    (same_cost_later c.args.self.now c.aim.new.self c.args.part c.args.task c.aim.result c.aim.ensures c.requires.reference i may
-    c.in-Some.aim (c.in_ok-aim.was ∙ ap Ok c.in-Some.is) _ c.in_ok-value.field-0
-    (seen_so c.aim.new.self _ c.copy_held.new.self c.in-Some.aim.key c.in_ok-value.field-0 c.self.view_is
-    (record { value = c.in_ok-value.ensures.value; touched = c.copy_held.ensures.touched; only = c.copy_held.ensures.only })) c.in_default-2.is
-    (c.args.task.depth - 1) (omega (arith, c.if-task-eq0.false)) c.task.result c.task.ensures c.moved_on.new.tags
-    (record { keeps = c.moved_on.ensures.keeps; contexts = c.moved_on.ensures.one_for_one; entered = c.moved_on.ensures.entered }))
-    (c.ask_body.ensures.asks i c.args.task
-    (may_ask_body c.args.self.now c.aim.new.self c.args.part c.args.task c.aim.result c.aim.ensures c.requires.reference i may
+    body_asked c.args.self.now c.aim.new.self c.args.part c.args.task c.aim.result c.aim.ensures c.requires.reference i may
     c.in-Some.aim (c.in_ok-aim.was ∙ ap Ok c.in-Some.is) _ c.in_ok-value.field-0
     (seen_so c.aim.new.self _ c.copy_held.new.self c.in-Some.aim.key c.in_ok-value.field-0 c.self.view_is
     (record { value = c.in_ok-value.ensures.value; touched = c.copy_held.ensures.touched; only = c.copy_held.ensures.only })) c.in_default-2.is
     (c.args.task.depth - 1) (omega (arith, c.if-task-eq0.false)) c.task.result c.task.ensures c.moved_on.new.tags
     (record { keeps = c.moved_on.ensures.keeps; contexts = c.moved_on.ensures.one_for_one; entered = c.moved_on.ensures.entered })
-    c.in_ok-body.body c.in_ok-body.ensures.passed c.in_ok-body.ensures.passed_known))
+    c.in_ok-body.body c.in_ok-body.ensures.passed c.in_ok-body.ensures.passed_known c.ask_body.new.self (gave c.ask_body.result c.ask_body.new.answer)
+    (c.ask_body.ensures.asks i c.args.task)
