@@ -1,6 +1,6 @@
 -- Where a name stands again in a tree, an earlier definition of it is in scope, or the function in whose parameters it does.
-use Rattle.lucid_explain_source.proofs.Common.{◌≡◌, ℕ, suc, ◌≤◌, ◌<◌, inl, inr, List, [], ◌∷◌, ◌++◌, Bool, true, false, refl, ap, sym, subst, ◌∙◌, arith, Def, Option, find, list_any, nat_eq, ◌||◌, if◌then◌else◌}
-use Rattle.std.specs.Prelude.{Some, None, IsSome, ◌⊎◌, ◌&&◌, nat_lt}
+use Rattle.lucid_explain_source.proofs.Common.{◌≡◌, ℕ, suc, ◌≤◌, ◌<◌, inl, inr, List, [], ◌∷◌, ◌++◌, Bool, true, false, refl, ap, sym, ◌∙◌, arith, Def, find, list_any, nat_eq, ◌||◌, if◌then◌else◌}
+use Rattle.std.specs.Prelude.{Some, IsSome, ◌⊎◌}
 use Rattle.std.specs.List.{filter}
 use Rattle.std.proofs.lemmas.Bool.{or_left, or_right}
 use Rattle.lucid_value.specs.Plain.{same_bytes}
@@ -10,7 +10,7 @@ use Rattle.lucid_tree.proofs.Members.{in_left, in_right, in_either}
 use Rattle.lucid_tree.specs.declared.tree.DefKind.TheVariants.{Plain, Function, Current}
 use Rattle.lucid_tree.specs.Tree.{PlainTree, form, name, call, block, PlainTrees, no_trees, tree, PlainDefs, no_defs, defines, defines_function, defines_current}
 use Rattle.lucid_scope.specs.Scope.{Static, in_block, in_function}
-use Rattle.lucid_scope.specs.Sites.{Site, named, called, again, Earlier, also, no_names, again_if, repeats, sites, sites_in, outside_sites, inside_sites}
+use Rattle.lucid_scope.specs.Sites.{again, Earlier, also, no_names, again_if, repeats, sites, sites_in, outside_sites, inside_sites}
 use Rattle.lucid_explain_source.specs.Scopes.{one_of, listed, is_headed, has_place, sees_block, listed_if, in_scope, in_scope_in, in_scope_defs}
 use Rattle.lucid_explain_source.specs.Names.{heads, is_before, earlier, headed}
 use Rattle.lucid_explain_source.proofs.Rising.{Rises, RiseIn, DefsRise}

@@ -1,10 +1,10 @@
 -- The definitions of each block of a tree that is spelled stand in the order of their places.
-use Rattle.lucid_explain_source.proofs.Common.{◌≡◌, ℕ, suc, ◌≤◌, List, [], ◌∷◌, ◌++◌, arith}
+use Rattle.lucid_explain_source.proofs.Common.{ℕ, suc, ◌≤◌, List, [], ◌∷◌, ◌++◌, arith}
 use Rattle.lucid_scan.specs.declared.token.Token.{Token}
 use Rattle.lucid_scan.specs.Laws.{IsInOrder}
 use Rattle.lucid_tree.specs.Tree.{PlainTree, form, name, call, block, PlainTrees, no_trees, tree, PlainDefs, no_defs, defines, defines_function, defines_current}
 use Rattle.lucid_parse.specs.declared.terminal.Terminal.TheVariants as terminal
-use Rattle.lucid_parse.specs.Grammar.{PlacedTerminal, terminal_at, Parameter, Defined, Plain, Function, Current, def_before, defs_and, trees_and, names_of, places_of, Spells, spells_const, spells_name, spells_infix, spells_prefix, spells_inner, spells_if, spells_call, spells_called, spells_block, SpellsArgs, spells_one, spells_more, SpellsDefs, spells_none, spells_def, spells_function, spells_current}
+use Rattle.lucid_parse.specs.Grammar.{PlacedTerminal, terminal_at, Parameter, Plain, Function, Current, defs_and, trees_and, Spells, spells_const, spells_name, spells_infix, spells_prefix, spells_inner, spells_if, spells_call, spells_called, spells_block, SpellsArgs, spells_one, spells_more, SpellsDefs, spells_none, spells_def, spells_function, spells_current}
 use Rattle.lucid_parse.specs.Terminals.{Terminals, terminals_none, terminals_next}
 
 -- The definitions of each block stand in order, between these places.

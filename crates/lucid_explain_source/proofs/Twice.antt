@@ -1,6 +1,6 @@
 -- Of a name that is defined twice an earlier definition is told.
-use Rattle.lucid_explain_source.proofs.Common.{◌≡◌, ℕ, List, Bool, true, false, length, ap, sym, subst}
-use Rattle.std.specs.Prelude.{◌⊎◌, Option, None, Some, IsSome, nat_eq, if◌then◌else◌}
+use Rattle.lucid_explain_source.proofs.Common.{◌≡◌, ℕ, List, Bool, true, false, length, ap, subst}
+use Rattle.std.specs.Prelude.{◌⊎◌, None, Some, IsSome, nat_eq, if◌then◌else◌}
 use Rattle.lucid_scan.specs.Laws.{TokensAreInOrder}
 use Rattle.lucid_tree.specs.Tree.{PlainTree}
 use Rattle.lucid_tree.specs.Members.{In}

@@ -1,5 +1,5 @@
 -- A source is accepted or refused, and where it is refused one fault alone is explained.
-use Rattle.lucid_explain_source.proofs.Common.{◌≡◌, List, ℕ, [], ap, sym, subst, ◌∙◌}
+use Rattle.lucid_explain_source.proofs.Common.{◌≡◌, List, ℕ, ap, sym, subst, ◌∙◌}
 use Rattle.std.specs.Prelude.{◌≢◌, Some}
 use Rattle.lucid_scan.specs.declared.token.Token.{Token}
 use Rattle.lucid_scan.specs.declared.refusal.ScanRefusal.{ScanRefusal}
@@ -12,7 +12,7 @@ use Rattle.lucid_parse.specs.Spelled.{SpellsTree, IsSourceRefused}
 use Rattle.lucid_parse.specs.Laws.{TokensSpellOneTree, SpelledTreesAreWellMade, TokensHaveOneRefusal, SpelledTokensAreNotRefused}
 use Rattle.lucid_tree.specs.Tree.{PlainTree}
 use Rattle.lucid_scope.specs.declared.refusal.ScopeRefusal.{ScopeRefusal}
-use Rattle.lucid_scope.specs.Bindings.{HasNoFault, IsLeastFault}
+use Rattle.lucid_scope.specs.Bindings.{IsLeastFault}
 use Rattle.lucid_scope.specs.Laws.{LeastFaultIsUnique, NoFaultIsLeast}
 use Rattle.lucid_explain_source.specs.Accepted.{HasTokens, IsSpelt, IsAccepted, IsTurnedDown, by_scanner, by_parser, by_names}
 use Rattle.lucid_explain_source.specs.declared.fault.Fault.{Fault}

@@ -1,7 +1,7 @@
 -- What is said of a character that isn't ASCII: what to write for it. Its bytes are those of UTF-8; the marks of UTF-16 are here too.
 use Rattle.std.specs.Prelude.{ℕ, Bool, List, [], ◌∷◌, codes, nat_eq, if◌then◌else◌}
 use Rattle.std.specs.List.{starts_with}
-use Rattle.lucid_explain_source.specs.declared.characters.Character.{Character}
+use Rattle.std.specs.Borrow.{Bor}
 
 abbrev pub mark_advice : List ℕ
 mark_advice = codes "A byte order mark stands here: save the file without it.\n"
@@ -64,8 +64,8 @@ characters =
     ∷ (195 ∷ 183 ∷ [], division_advice)
     ∷ []
 
-abbrev pub bytes_and_advice : Character → List ℕ × List ℕ
-bytes_and_advice c = (c.bytes.now, c.advice.now)
+abbrev pub bytes_and_advice : Bor (List ℕ) × Bor (List ℕ) → List ℕ × List ℕ
+bytes_and_advice c = (c.0.now, c.1.now)
 
 -- the bytes begin with those
 unfoldable pub begins : (rest bytes : List ℕ) → Bool

@@ -1,5 +1,5 @@
 //! Sources that are accepted.
-ghost use Rattle.std.specs.Prelude.{◌≡◌, ◌≢◌, ◌≤◌, length, IfOk, IfSome, IfNone, OnSome};
+ghost use Rattle.std.specs.Prelude.{◌≢◌, ◌≤◌, length, IfOk, IfSome, IfNone, OnSome};
 ghost use Rattle.lucid_scan.specs.Refusals.{Refuses, most_source_bytes};
 ghost use Rattle.lucid_scan.specs.Tokens.{Tokens};
 ghost use Rattle.lucid_parse.specs.Spelled.{IsSourceRefused};
@@ -53,6 +53,7 @@ fn scoped_of_tree(alloc: Global, source: &[u8], tree: &Tree) -> Result<Option<Sc
         }
         Err(ScopeRefusal::NoMemory) => Err(AllocError),
         Err(refusal) => {
+            // For the proof: a fault of names turns a source down.
             names_turn_down(source, tree, &refusal);
             Ok(None)
         }
@@ -75,6 +76,7 @@ fn scoped_of_tokens(
         Ok(tree) => scoped_of_tree(alloc, source, &tree),
         Err(ParseRefusal::NoMemory) => Err(AllocError),
         Err(refusal) => {
+            // For the proof: so does a refusal of its tokens.
             parser_turns_down(source, tokens, &refusal);
             Ok(None)
         }
@@ -92,6 +94,7 @@ pub fn scoped_of(alloc: Global, source: &[u8]) -> Result<Option<Scoped>, AllocEr
         Ok(tokens) => scoped_of_tokens(alloc, source, &tokens),
         Err(ScanRefusal::NoMemory) => Err(AllocError),
         Err(refusal) => {
+            // For the proof: so does a refusal of its bytes.
             scanner_turns_down(source, refusal);
             Ok(None)
         }

@@ -5,11 +5,10 @@ ghost use Rattle.std.specs.List.{prefix_len, suffix_len};
 ghost use Rattle.lucid_value.specs.Names.{is_name_byte};
 ghost use Rattle.lucid_scan.specs.Refusals.{Refuses, most_source_bytes};
 ghost use Rattle.lucid_explain_source.specs.Advice.{byte_advice, ends_name, behind_advice, ascii_advice, is_real, last_name, last_line, is_numbered, is_loop, point_advice, colon_advice, bad_advice, open_advice, big_advice, long_advice, scan_text};
-ghost use Rattle.lucid_explain_places.specs.Positions.{stands_in_line};
 ghost use Rattle.lucid_explain_places.specs.Shown.{place_text};
 
 use crate::characters::{DIFFERS, begins, character_advice};
-use lucid_explain_places::put_place;
+use lucid_explain_places::{len_of_line, put_place};
 use lucid_scan::ScanRefusal;
 use lucid_value::is_name_byte;
 use std::alloc::AllocError;
@@ -103,18 +102,6 @@ fn is_real(rest: &[u8]) -> bool
     ensures { result ≡ is_real rest.now }
 {
     rest.len() > 1 && rest[0] == b'.' && rest[1].is_ascii_digit()
-}
-
-// How many bytes of a line stand at the end.
-fn len_of_line(before: &[u8]) -> usize
-    ensures value { result ≡ suffix_len stands_in_line before.now }
-    ensures within { result ≤ length before.now }
-{
-    before
-        .iter()
-        .rev()
-        .take_while(|byte| **byte != b'\n')
-        .count()
 }
 
 // The bytes of a name that stand at the end.
@@ -291,7 +278,7 @@ fn put_big_number(text: &mut Vec<u8>, file: &[u8], source: &[u8], at: u32) -> Re
 }
 
 /// Appends what is said of a source that the scanner refuses.
-pub fn put_scan(
+pub(crate) fn put_scan(
     text: &mut Vec<u8>,
     file: &[u8],
     source: &[u8],

@@ -2,7 +2,6 @@
 #![tactic(auto)]
 
 pub use crate::accepted::scoped_of;
-pub use crate::advice::put_scan;
 pub use crate::characters::begins;
 pub use crate::columns::explain_columns;
 pub use crate::definitions::{put_definition, put_name};

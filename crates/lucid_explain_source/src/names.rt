@@ -6,8 +6,8 @@ ghost use Rattle.lucid_value.specs.Plain.{same_bytes};
 ghost use Rattle.lucid_value.specs.Names.{is_name_byte};
 ghost use Rattle.lucid_tree.specs.declared.tree.Def.{Def as PlainDef};
 ghost use Rattle.lucid_scan.specs.Refusals.{most_source_bytes};
-ghost use Rattle.lucid_explain_source.specs.Names.{name_front, name_at, is_function, is_plain, fits, told_text, advised_text, heads, is_before, earlier, headed, has_parameter, is_parameter, twice_advice, parameter_advice, found_text, again_text, twice_text, is_printing, is_length, no_function_text, not_function_text, refusal_at, said_text, names_text};
-ghost use Rattle.lucid_explain_source.specs.Scopes.{lent, in_scope};
+ghost use Rattle.lucid_explain_source.specs.Names.{name_front, name_at, is_function, is_plain, fits, told_text, advised_text, heads, is_before, headed, has_parameter, is_parameter, twice_advice, parameter_advice, found_text, again_text, twice_text, is_printing, is_length, no_function_text, not_function_text, refusal_at, said_text, names_text};
+ghost use Rattle.lucid_explain_source.specs.Scopes.{lent};
 
 use crate::definitions::put_definition;
 use crate::scopes::{find_in_scope, is_headed};

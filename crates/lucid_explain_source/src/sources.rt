@@ -66,6 +66,7 @@ fn said_of_syntax(
     requires refused { IsSourceRefused source.now tokens.now (ParseRefusal.Syntax at) }
     ensures { IfOk result (λ said. Explains file.now source.now said.fault said.text.items) }
 {
+    // For the proof: no token ends past the source, so the place is one of it.
     tokens_are_in_order();
     let text = explain_syntax(alloc, file, source, tokens, at)?;
     Ok(Explanation {
