@@ -5,7 +5,7 @@ from drawn import SHOWN
 from harness import case, check, lines, shown
 from shown_demands import FIB, USAGE
 
-UNSEEN = "(What the last step computes isn't seen: the policy has no turn after it.)\n"
+UNSEEN = "(What is computed after the last turn of the policy isn't seen.)\n"
 FIRST = """asks for the value at 0
   computes f at 0: 0
 writes 0   (1 computed, 0 found)
@@ -131,7 +131,8 @@ def long_values_are_shortened(run):
 writes `abcdefghijklmnopqrs.. (28 bytes)   (1 computed, 0 found)
 asks for the value at 1
   finds n at 0: `abcdefghijklmnopqrs.. (28 bytes)
-writes `abcdefghijklmnopqrs.. (28 bytes)   (1 computed, 1 found)
+  computes n at 1: `abcdefghijklmnopqrs.. (28 bytes)
+writes `abcdefghijklmnopqrs.. (28 bytes)   (2 computed, 1 found)
 """ + UNSEEN)
 
 
@@ -146,7 +147,8 @@ def names_have_numbers_where_the_program_comes_from_a_pipe(run):
 writes 0   (1 computed, 0 found)
 asks for the value at 1
   finds name 0 at 0: 0
-writes 0   (1 computed, 1 found)
+  computes name 0 at 1: 0
+writes 0   (2 computed, 1 found)
 """ + UNSEEN)
 
 

@@ -59,7 +59,7 @@ unfoldable pub first_steps : (time : ℕ) → (begun : Bool) → Option PlainTou
 first_steps t false touched es = asks t ∷ []
 first_steps t true touched es = touched_steps touched es
 
--- What a run's last step puts into the store isn't seen: the policy has no turn after its line.
+-- What is put into the store after the policy's last turn isn't seen: there is no turn after a run's last line.
 unfoldable pub end_steps : (time : ℕ) → (begun : Bool) → List PlainStep
 end_steps t begun = if begun || (t == 0) then [] else unseen ∷ []
 

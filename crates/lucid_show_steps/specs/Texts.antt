@@ -76,7 +76,7 @@ step_text names d (drops k) = (codes "  drops " ++ key_text names k) ++ codes "\
 step_text names d (drops_more n) = codes "  drops values: " ++ (decimal n ++ codes "\n")
 step_text names d (writes t) = line_text d
 step_text names d (leaves_out n) = []
-step_text names d unseen = codes "(What the last step computes isn't seen: the policy has no turn after it.)\n"
+step_text names d unseen = codes "(What is computed after the last turn of the policy isn't seen.)\n"
 
 -- one more, up to the greatest 64-bit number
 abbrev pub one_more : ℕ → ℕ

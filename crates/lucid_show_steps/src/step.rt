@@ -21,6 +21,6 @@ pub enum Step {
     Writes { time: u64 },
     /// So many values were computed, found or dropped, of which nothing else is told.
     LeavesOut { count: u64 },
-    /// What the run's last step puts into the store isn't seen: the policy has no turn after it.
+    /// What is put into the store after the policy's last turn isn't seen.
     Unseen,
 }

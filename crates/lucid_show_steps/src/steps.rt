@@ -176,7 +176,7 @@ impl Telling {
         }
     }
 
-    // Tells that the run's last step isn't seen, where its line was the last.
+    // Tells that what comes after the policy's last turn isn't seen, where a line ends the run.
     #[tactic(auto, unfolding(crate::specs::Steps::end_steps))]
     fn tell_end(&mut self) -> Result<(), AllocError>
         ensures { OnOk result (plain_steps self.new.steps.items ≡ plain_steps self.old.steps.items ++ end_steps self.old.time self.old.begun) }

@@ -19,8 +19,7 @@ const MOST_BYTES: usize = 24;
 
 const FRONT_BYTES: usize = 20;
 
-const UNSEEN: &[u8] =
-    b"(What the last step computes isn't seen: the policy has no turn after it.)\n";
+const UNSEEN: &[u8] = b"(What is computed after the last turn of the policy isn't seen.)\n";
 
 // What was done so far, and what is left.
 #[derive(Clone, Copy)]
