@@ -4,8 +4,7 @@ use Rattle.std.proofs.lemmas.Option.{same_Some}
 use Rattle.clap.proofs.OnLiterals.{clap_on_literals}
 use Rattle.lucid_value.specs.Plain.{int}
 use Rattle.lucid_value.specs.ValueText.{value_text}
-unfoldable use Rattle.lucid_value.specs.Elements.{element, line_value_of, value_read}
-unfoldable use Rattle.lucid_value.specs.ListScan.{atom_value, integer_value}
+use Rattle.lucid_value.specs.Elements.{element}
 use Rattle.lucid_tree.proofs.Growth.{meant-once, val-up}
 use Rattle.lucid_words.specs.declared.PolicyWord.TheVariants as policy
 use Rattle.lucid_ports.specs.World.{unread}
@@ -29,7 +28,7 @@ use Rattle.lucid_top.specs.Clauses.{WriteFails}
 use Rattle.lucid_top.specs.Witness.{input_source, two_lines, check_words, seven_certificate, AsksCheck, CheckIsAWitness, why_words, AsksWhy, EndsWithSeven, MakingIsAWitness}
 use Rattle.lucid_top.proofs.OneCall.{same_words, one_task}
 use Rattle.lucid_top.proofs.RunEnds.{in_range}
-use Rattle.lucid_top.proofs.InputSource.{input_program, input-spelt, input-no-fault, input-inputs}
+use Rattle.lucid_top.proofs.InputSource.{first_is, input_program, input-spelt, input-no-fault, input-inputs}
 
 -- what the words ask for
 abbrev words_for : (why : Option ℕ) → (check : List ℕ) → PlainWords
@@ -59,11 +58,7 @@ why_words_are : words_asked why_words ≡ Some (words_for (Some 0) [])
 unfolding words_asked clap_on_literals
 why_words_are = refl
 
--- the first element; and the elements of the input
-first_is : element two_lines 0 ≡ int (pos 7)
-unfolding element line_value_of value_read atom_value integer_value
-first_is = refl
-
+-- the elements of the input
 abbrev b : Elements
 b = λ n j. Some (element two_lines j)
 

@@ -1,6 +1,9 @@
--- The program that is an input: its source spells its tree, whose one free name is the input; and what it has at the first time.
-use Rattle.lucid_top.proofs.Common.{◌≡◌, ℕ, zero, suc, List, [], ◌∷◌, length, Some, inl, inr, refl, ap, arith, codes, PlainValue, TextsAreLongest, name, Elements, In, empty, Derives, HasNoFault, all_sites, PlacedTerminal, Spelt, HasInputs, IsNonDecreasingBy}
+-- The program that is an input: its source spells its tree, whose one free name is the input; what it has at the first time, and the first element.
+use Rattle.lucid_top.proofs.Common.{◌≡◌, ℕ, zero, suc, List, [], ◌∷◌, length, Some, inl, inr, refl, ap, arith, codes, pos, PlainValue, TextsAreLongest, name, Elements, In, empty, Derives, HasNoFault, all_sites, PlacedTerminal, Spelt, HasInputs, IsNonDecreasingBy}
+unfoldable use Rattle.lucid_value.specs.Elements.{element, line_value_of, value_read}
+unfoldable use Rattle.lucid_value.specs.ListScan.{atom_value, integer_value}
 use Rattle.lucid_value.specs.Names.{reserved_words}
+use Rattle.lucid_value.specs.Plain.{int}
 use Rattle.lucid_scan.specs.Tokens.{tokens_end}
 use Rattle.lucid_tree.specs.Tree.{PlainTree}
 use Rattle.lucid_tree.specs.WellMade.{depth}
@@ -12,7 +15,7 @@ use Rattle.lucid_parse.specs.declared.terminal.Terminal.TheVariants as terminal
 use Rattle.lucid_parse.specs.Grammar.{terminal_at, spells_name}
 use Rattle.lucid_parse.specs.Terminals.{terminals_none}
 use Rattle.lucid_print.proofs.Goods.{Good, name_good}
-use Rattle.lucid_top.specs.Witness.{input_source}
+use Rattle.lucid_top.specs.Witness.{input_source, two_lines}
 use Rattle.lucid_top.proofs.Spelling.{ReadFrom, step}
 
 abbrev pub input_program : PlainTree
@@ -64,3 +67,8 @@ input-value b v w is d = meant-once b input_program empty 0 0 v w (derives-means
 pub input-consulted : (b : Elements) (m d j : ℕ) → In (codes "a", j) (consults b (suc m) d input_program empty 0 0) → j ≡ 0
 input-consulted b m d j (inl is) = ap (λ (p : List ℕ × ℕ). p.1) is
 input-consulted b m d j (inr is) = absurd is
+
+-- the first element of the two lines that it is run over
+pub first_is : element two_lines 0 ≡ int (pos 7)
+unfolding element line_value_of value_read atom_value integer_value
+first_is = refl

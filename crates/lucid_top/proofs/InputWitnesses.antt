@@ -3,14 +3,12 @@ use Rattle.lucid_top.proofs.Common.{◌≡◌, ℕ, zero, suc, ◌<◌, ◌≤�
 use Rattle.clap.proofs.OnLiterals.{clap_on_literals}
 use Rattle.lucid_value.specs.Plain.{int}
 use Rattle.lucid_value.specs.Lines.{end_of_line}
-unfoldable use Rattle.lucid_value.specs.Elements.{element, line_value_of, value_read}
-unfoldable use Rattle.lucid_value.specs.ListScan.{atom_value, integer_value}
 use Rattle.lucid_tree.specs.Demand.{consults}
 use Rattle.lucid_words.specs.declared.PolicyWord.TheVariants as policy
 use Rattle.lucid_report.specs.declared.status.Status.TheVariants as status
 use Rattle.lucid_top.specs.Headline.{Has, no_lines}
 use Rattle.lucid_top.specs.Witness.{one_line, input_source, two_lines, Reads, InputIsAWitness}
-use Rattle.lucid_top.proofs.InputSource.{input_program, input-spelt, input-no-fault, input-inputs, input-value, input-consulted}
+use Rattle.lucid_top.proofs.InputSource.{first_is, input_program, input-spelt, input-no-fault, input-inputs, input-value, input-consulted}
 
 -- what the words ask for
 abbrev one_words : PlainWords
@@ -35,11 +33,6 @@ one_words = record {
 words_are : words_asked one_line ≡ Some one_words
 unfolding words_asked clap_on_literals
 words_are = refl
-
--- the first element
-first_is : element two_lines 0 ≡ int (pos 7)
-unfolding element line_value_of value_read atom_value integer_value
-first_is = refl
 
 -- the lines of that many values
 abbrev sevens : ℕ → List ℕ

@@ -8,18 +8,8 @@ ghost use Rattle.lucid_top.specs.Clauses.{MeetsClauses};
 
 use crate::top::lucid;
 use lucid_ports::{Places, Sink};
-use lucid_report::Status;
+use lucid_report::{Status, words_of};
 use std::alloc::Global;
-
-// The words after the command's own name.
-fn words_of(arguments: &[String]) -> &[String]
-    ensures { result.now ≡ drop 1 arguments.now }
-{
-    match arguments {
-        [_, words @ ..] => words,
-        [] => &[],
-    }
-}
 
 /// The command by all arguments of a command line, of which the first is the command's own name: does what the others ask for, as `lucid`.
 pub fn lucid_from_arguments<P: Places, K: Sink, E: Sink>(

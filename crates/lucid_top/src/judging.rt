@@ -74,6 +74,7 @@ pub fn resolve_beside(alloc: Global, tree: Tree, columns: &[Name]) -> Result<Sco
     ensures resolved { IfOk result AreResolved }
     ensures refused { IfErr result (IsRefusalOf (RefusesBeside tree columns.now)) }
 {
+    // For the proof: the names were looked at, so with the columns beside them there is no fault of names.
     columns_have_no_fault();
     let scoped = resolve_copy(alloc, &tree)?;
     let new = columns_beside(alloc, tree, columns)?;

@@ -83,6 +83,7 @@ pub fn make_program<P: Places, K: Sink>(
     ensures read_late { AsksNoneLate (P.world places.old) (P.world places.new) }
     ensures write_late { EndsAtItsFault (K.faults out.old) (K.late out.old) (K.late out.new) }
 {
+    // For the proof: what follows is meant; and inputs of which nothing is read fit their places, and are read no further than they may be.
     what_follows_is_meant();
     fresh_fits();
     keeps_within();

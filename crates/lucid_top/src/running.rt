@@ -168,6 +168,7 @@ pub fn run_program<R: Retire, S: Pick, P: Places, K: Sink>(
     ensures read_late { AsksNoneLate (P.world places.old) (P.world places.new) }
     ensures write_late { EndsAtItsFault (K.faults out.old) (K.late out.old) (K.late out.new) }
 {
+    // For the proof: inputs of which nothing is read fit their places.
     fresh_fits();
     let Reached { names, numbers } = reached;
     let inputs = unread_inputs(terms.alloc, numbers)?;

@@ -72,6 +72,7 @@ fn run_tree<R: Retire, S: Pick, P: Places, K: Sink>(
     requires asked { option_map (λ names. names.now) terms.columns ≡ columns_asked (plain_words terms.words.now) }
     ensures { Does (call_of P.world K.written K.faults K.late (policy_view R.keeps R.empties R.most terms.entry.choices.policy) (Some (plain_words terms.entry.words.now)) places.old places.new out.old out.new) result }
 {
+    // For the proof: what a run of the table does, and its figures, are those of the tree that it was compiled from.
     same_streams_run_alike();
     figures_carry();
     let scoped = program_of(terms.alloc, terms.words, places)?;
@@ -89,6 +90,7 @@ pub fn columns_task<R: Retire, S: Pick, P: Places, K: Sink>(
     requires asked { option_map (λ names. names.now) terms.columns ≡ columns_asked (plain_words terms.words.now) }
     ensures { Does (call_of P.world K.written K.faults K.late (policy_view R.keeps R.empties R.most terms.entry.choices.policy) (Some (plain_words terms.entry.words.now)) places.old places.new out.old out.new) result }
 {
+    // For the proof: the figures of the table's run are those of the tree, and each column is what the tree has at the column's space.
     figures_carry();
     columns_are_spaces();
     let scoped = columns_of(terms.alloc, terms.words, places)?;

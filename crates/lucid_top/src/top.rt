@@ -110,6 +110,7 @@ pub fn outcome_of<P: Places, K: Sink>(
         (call (words_asked (map string_bytes words.now)) (P.world places.old) (P.world places.new) (told K.written K.faults K.late out.old) (told K.written K.faults K.late out.new))
         result }
 {
+    // For the proof: a source has one verdict, so a refusal comes wherever it is the first.
     one_verdict();
     do_task(alloc, words, places, out)
 }
@@ -127,6 +128,7 @@ fn outcome_under<R: Retire, S: Pick, P: Places, K: Sink>(
         (call_of P.world K.written K.faults K.late (policy_view R.keeps R.empties R.most choices.policy) (words_asked (map string_bytes words.now)) places.old places.new out.old out.new)
         result }
 {
+    // For the proof: a source has one verdict, so a refusal comes wherever it is the first.
     one_verdict();
     do_task_under(alloc, words, choices, places, out)
 }
