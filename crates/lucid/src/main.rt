@@ -1,42 +1,19 @@
 //! The command `lucid`: runs a pLucid program and prints the values of its stream, one a line.
 #![tactic(auto)]
 
-ghost use Rattle.std.specs.Prelude.{◌≡◌, ◌≢◌, Err, IfErr, IfOk, OnErr, drop, map};
-ghost use Rattle.std.specs.Process.{exit_status};
+ghost use Rattle.std.specs.Prelude.{◌≡◌, Err, IfErr, IfOk, OnErr, drop, map};
 ghost use Rattle.std.specs.String.{string_bytes};
 ghost use Rattle.lucid_words.specs.Asked.{words_asked};
 ghost use Rattle.lucid_ports.specs.Told.{told};
-ghost use Rattle.lucid_report.specs.Status.{code_of};
 ghost use Rattle.lucid_report.specs.Telling.{Tells};
 ghost use Rattle.lucid_top.specs.Call.{call};
 ghost use Rattle.lucid_top.specs.Clauses.{MeetsClauses};
 
 use lucid_ports::{Places, RealPlaces, RealSink, Sink};
-use lucid_report::{Refusal, Status, Stop, tell};
+use lucid_report::{Status, Stop, all_arguments, closed_streams, tell};
 use lucid_top::lucid_from_arguments;
 use std::alloc::Global;
-use std::fs::File;
-use std::io::ErrorKind;
 use std::process::ExitCode;
-use std::{env, fs};
-
-// Why there are no arguments: one isn't UTF-8, which is usage, or there was no memory.
-fn no_arguments(kind: ErrorKind) -> Stop
-    ensures usage { kind ≡ ErrorKind.InvalidData → result ≡ Stop.Refused Refusal.Usage }
-    ensures memory { kind ≢ ErrorKind.InvalidData → result ≡ Stop.NoMemory }
-{
-    match kind {
-        ErrorKind::InvalidData => Stop::Refused(Refusal::Usage),
-        _ => Stop::NoMemory,
-    }
-}
-
-// The arguments of the command line, the command's own name first.
-fn all_arguments(rt: &HostRuntime) -> Result<Vec<String>, Stop> {
-    let arguments = env::args(rt).map_err(|error| no_arguments(error.kind()))?;
-    let arguments = arguments.collect(rt.alloc())?;
-    Ok(arguments)
-}
 
 // The status of a call by all arguments of the command line, the command's own name first; or by none, where they couldn't be read.
 fn status_by<P: Places, K: Sink, E: Sink>(
@@ -73,25 +50,7 @@ fn real_status(rt: &HostRuntime) -> Status {
     )
 }
 
-// The null device, where there is one.
-fn null_device(rt: &HostRuntime) -> Option<File> {
-    fs::open(rt, "/dev/null").ok()
-}
-
-// The null device under the numbers of those standard streams that were closed when the command began, and under others that are free.
-// While it is open, no file gets the number of such a stream, to be read or written in its place.
-fn closed_streams(rt: &HostRuntime) -> [Option<File>; 3] {
-    [null_device(rt), null_device(rt), null_device(rt)]
-}
-
-// The exit code of a status.
-fn exit_code(status: Status) -> ExitCode
-    ensures { exit_status result ≡ code_of status }
-{
-    ExitCode::from(status.code())
-}
-
 fn main(rt: HostRuntime) -> ExitCode {
     let _taken = closed_streams(&rt);
-    exit_code(real_status(&rt))
+    real_status(&rt).exit_code()
 }

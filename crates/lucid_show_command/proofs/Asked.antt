@@ -1,9 +1,8 @@
 -- What words ask for, from what `clap` answers to them.
 use Rattle.lucid_show_command.proofs.Common.{◌≡◌, ◌≢◌, Some, true, List, [], ◌∷◌, Option, None, refl, sym, ap, subst, ◌∙◌, inl, inr}
 use Rattle.clap.specs.declared.parser.matches.ArgMatches.{ArgMatches}
-use Rattle.clap.specs.Words.{App, HasKind, HasMatchesOf, IsAmong, Kinds, Text, fault_of, found_of, is_simple, is_simple_and_free, kind_of, matches_of, rows_of}
+use Rattle.clap.specs.Words.{App, HasKind, HasMatchesOf, Kinds, Text, fault_of, found_of, is_simple, is_simple_and_free, kind_of, matches_of, rows_of}
 use Rattle.clap.specs.declared.error.Error.{Error}
-use Rattle.clap.specs.declared.error.kind.ErrorKind.{ErrorKind}
 use Rattle.clap.specs.declared.error.kind.ErrorKind.TheVariants.{OutOfMemory}
 use Rattle.std.specs.Prelude.{Bool, false, if◌then◌else◌}
 use Rattle.lucid_words.specs.Asked.{PlainWords, where_taken}
@@ -54,14 +53,6 @@ is_simple_one = refl
 is_free : is_simple_and_free show_command ≡ true
 is_free = refl
 
-where_none : {X : Type 0} (faults : Kinds) (answer : Option X) → faults ≡ [] → where_taken faults answer ≡ answer
-where_none [] answer none = refl
-where_none (k ∷ ks) answer none = cc
-
-where_some : {X : Type 0} (faults : Kinds) (answer : Option X) (k : ErrorKind) → IsAmong k faults → where_taken faults answer ≡ None
-where_some [] answer k among = absurd among
-where_some (x ∷ xs) answer k among = refl
-
 -- where the words are taken, they ask for what the rows ask for
 pub asked_at_ok : (app : App) (words : List Text) (m : ArgMatches) → app ≡ show_command → (is_simple_and_free app ≡ true → fault_of app words ≡ [])
     → HasMatchesOf app words m → asked words ≡ words_shown (rows_of (found_of m))
@@ -69,15 +60,16 @@ unfolding asked
 asked_at_ok app words m same no_fault matches =
     let rows = subst (λ (a : App). rows_of (found_of m) ≡ matches_of a words) same (matches (ap is_simple same ∙ is_simple_one)).0 in
     let none = subst (λ (a : App). fault_of a words ≡ []) same (no_fault (ap is_simple_and_free same ∙ is_free)) in
-    where_none (fault_of show_command words) (words_shown (matches_of show_command words)) none ∙ ap words_shown (sym rows)
+    ap (λ (faults : Kinds). where_taken faults (words_shown (matches_of show_command words))) none ∙ ap words_shown (sym rows)
 
 -- where they are refused but for memory, they ask for nothing
 pub asked_at_err : (app : App) (words : List Text) (error : Error) → app ≡ show_command → (is_simple_and_free app ≡ true → HasKind (fault_of app words) error)
     → kind_of error ≢ OutOfMemory → asked words ≡ None
 unfolding asked
 asked_at_err app words error same kinds no_memory =
-    let kind = subst (λ (a : App). HasKind (fault_of a words) error) same (kinds (ap is_simple_and_free same ∙ is_free)) in
-    elim kind [
-      | inl memory ↦ absurd (no_memory memory)
-      | inr among ↦ where_some (fault_of show_command words) (words_shown (matches_of show_command words)) (kind_of error) among
-    ]
+    refused (fault_of show_command words) (subst (λ (a : App). HasKind (fault_of a words) error) same (kinds (ap is_simple_and_free same ∙ is_free)))
+  where
+    refused : (faults : Kinds) → HasKind faults error → where_taken faults (words_shown (matches_of show_command words)) ≡ None
+    refused [] (inl memory) = absurd (no_memory memory)
+    refused [] (inr among) = absurd among
+    refused (k ∷ ks) kind = refl

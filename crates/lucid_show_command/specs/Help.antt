@@ -1,8 +1,6 @@
--- The two words of the command that it doesn't share with `lucid`: each stands alone, and asks for a text.
-use Rattle.std.specs.Prelude.{ℕ, List, [], ◌∷◌, codes, Option, None, Some, if◌then◌else◌}
+-- The texts of the command: its help and its version.
+use Rattle.std.specs.Prelude.{ℕ, List, [], ◌∷◌, codes}
 use Rattle.std.specs.List.{concat}
-use Rattle.clap.specs.Words.{Text}
-use Rattle.lucid_value.specs.Plain.{same_bytes}
 
 unfoldable pub help_text : List ℕ
 help_text = concat
@@ -23,17 +21,3 @@ help_text = concat
 
 abbrev pub version_text : List ℕ
 version_text = codes "lucid_show 0.1.0\n"
-
--- the text for which a word asks
-abbrev pub text_for : (word : Text) → Option (List ℕ)
-text_for word =
-    if same_bytes word (codes "--help") then Some help_text
-    else if same_bytes word (codes "--version") then Some version_text
-    else None
-
--- the text for which words ask, the command's own name among them
-abbrev pub text_asked : (arguments : List Text) → Option (List ℕ)
-text_asked (own ∷ word ∷ []) = text_for word
-text_asked [] = None
-text_asked (own ∷ []) = None
-text_asked (own ∷ word ∷ other ∷ more) = None

@@ -2,7 +2,8 @@
 ghost use Rattle.std.specs.Prelude.{◌≡◌, drop, map};
 ghost use Rattle.std.specs.String.{string_bytes};
 ghost use Rattle.lucid_ports.specs.Told.{told};
-ghost use Rattle.lucid_show_command.specs.Help.{text_asked};
+ghost use Rattle.lucid_report.specs.Arguments.{text_asked};
+ghost use Rattle.lucid_show_command.specs.Help.{help_text, version_text};
 ghost use Rattle.lucid_show_command.specs.Words.{asked};
 ghost use Rattle.lucid_show_command.specs.Shows.{SaysOrShows, ShowsAsked, TellsRefused, TellsUsage};
 
@@ -14,7 +15,7 @@ use crate::showing::show_value;
 use crate::words::{Asked, read_asked};
 use lucid_explain_report::Outlook;
 use lucid_ports::{Places, Sink};
-use lucid_report::{Status, Stop, tell};
+use lucid_report::{Status, Stop, tell, words_of};
 use lucid_top::write_out;
 use lucid_words::WordsRefusal;
 
@@ -59,16 +60,6 @@ pub fn lucid_show<P: Places, F: Outlook, K: Sink, E: Sink>(
     }
 }
 
-// The words after the command's own name.
-fn words_of(arguments: &[String]) -> &[String]
-    ensures { result.now ≡ drop 1 arguments.now }
-{
-    match arguments {
-        [_, words @ ..] => words,
-        [] => &[],
-    }
-}
-
 /// The same by all arguments of a command line, of which the first is the command's own name. With `--help` or `--version` alone it writes the
 /// text that these ask for.
 pub fn lucid_show_from_arguments<P: Places, F: Outlook, K: Sink, E: Sink>(
@@ -81,7 +72,7 @@ pub fn lucid_show_from_arguments<P: Places, F: Outlook, K: Sink, E: Sink>(
     requires { (P.world places.old).reached ≡ 0 }
     ensures { SaysOrShows (F.files means.now.outlook.now) (P.world places.old) (P.world places.new) (told K.written K.faults K.late out.old) (told K.written K.faults K.late out.new)
         (told E.written E.faults E.late report.old) (told E.written E.faults E.late report.new) result
-        (text_asked (map string_bytes arguments.now)) (asked (map string_bytes (drop 1 arguments.now))) }
+        (text_asked help_text version_text (map string_bytes arguments.now)) (asked (map string_bytes (drop 1 arguments.now))) }
 {
     match text_asked(arguments) {
         Some(text) => {

@@ -1,8 +1,9 @@
-//! The two words of the command that it doesn't share with `lucid`.
+//! The texts of the two words of the command that it doesn't share with `lucid`.
 ghost use Rattle.std.specs.Prelude.{◌≡◌, map};
 ghost use Rattle.std.specs.String.{string_bytes};
 ghost use Rattle.std.specs.Option.{option_copied};
-ghost use Rattle.lucid_show_command.specs.Help.{help_text, text_for, text_asked};
+ghost use Rattle.lucid_report.specs.Arguments.{text_asked};
+ghost use Rattle.lucid_show_command.specs.Help.{help_text, version_text};
 
 const HELP: &[u8] =
     b"lucid_show shows what a value of a pLucid program was computed from, or a run step by step.\n\
@@ -29,25 +30,9 @@ fn help() -> &'static [u8]
     HELP
 }
 
-// The text for which a word asks.
-fn text_for(word: &[u8]) -> Option<&'static [u8]>
-    ensures { option_copied result ≡ text_for word.now }
-{
-    if word == b"--help".as_slice() {
-        Some(help())
-    } else if word == b"--version".as_slice() {
-        Some(VERSION)
-    } else {
-        None
-    }
-}
-
 /// The text for which the arguments of a command line ask, of which the first is the command's own name: with `--help` or `--version` alone.
 pub(crate) fn text_asked(arguments: &[String]) -> Option<&'static [u8]>
-    ensures { option_copied result ≡ text_asked (map string_bytes arguments.now) }
+    ensures { option_copied result ≡ text_asked help_text version_text (map string_bytes arguments.now) }
 {
-    match arguments {
-        [_, word] => text_for(word.as_bytes()),
-        _ => None,
-    }
+    lucid_report::text_asked(help(), VERSION, arguments)
 }
