@@ -1,13 +1,13 @@
 //! From a place to the part of a tree that has it.
-ghost use Rattle.std.specs.Prelude.{◌≡◌, ◌++◌, nat_eq};
+ghost use Rattle.std.specs.Prelude.{◌≡◌, ◌++◌};
 ghost use Rattle.std.specs.List.{find};
 ghost use Rattle.std.specs.Option.{option_copied};
 ghost use Rattle.lucid_explain_run.specs.Parts.{own_place, all_parts, parts_in, parts_in_defs, stands_at, part_at};
 
 use lucid_tree::{Defs, Parts, Shape, Tree};
 
-// A tree's own place.
-fn own_place(tree: &Tree) -> u32
+/// A tree's own place.
+pub fn own_place(tree: &Tree) -> u32
     ensures { result ≡ own_place tree.now }
 {
     tree.at

@@ -2,16 +2,16 @@
 ghost use Rattle.std.specs.Prelude.{◌≡◌, ◌≤◌, ◌++◌, length, IfOk, OnOk};
 ghost use Rattle.std.specs.Option.{option_copied};
 ghost use Rattle.lucid_scope.specs.Scoped.{scoped_tree};
+ghost use Rattle.lucid_compile.specs.Origins.{places_of, origins_of};
 ghost use Rattle.lucid_explain_source.specs.Accepted.{IsProgram};
-ghost use Rattle.lucid_explain_run.specs.Parts.{own_place};
 ghost use Rattle.lucid_scan.specs.Refusals.{most_source_bytes};
 ghost use Rattle.lucid_explain_run.specs.Pieces.{piece_of};
 ghost use Rattle.lucid_explain_run.specs.Judgments.{IsRow, numbers_text, told_text, piece_text, found_text, TellsJudgment};
 
-use crate::part_at;
+use crate::find::{own_place, part_at};
 use crate::rows::{Row, row_of};
 use crate::words::piece_word;
-use lucid_compile::find_origins;
+use lucid_compile::{Origins, find_origins};
 use lucid_explain_places::{put_number, put_place};
 use lucid_explain_source::scoped_of;
 use lucid_scope::Scoped;
@@ -25,13 +25,6 @@ struct Judged<'a> {
     source: &'a [u8],
     certificate: &'a [u8],
     number: u64,
-}
-
-// A piece's own place.
-fn own_place(piece: &Tree) -> u32
-    ensures { result ≡ own_place piece.now }
-{
-    piece.at
 }
 
 // Appends the judgment's line and node.
@@ -89,15 +82,23 @@ fn put_found(
     }
 }
 
-// The piece from which the node of a number comes.
-fn piece_of(alloc: Global, scoped: &Scoped, node: u32) -> Result<Option<&Tree>, AllocError>
+/// The piece of a tree from which the node of a number comes, by where the nodes of its table come from.
+pub fn piece_of<'a>(tree: &'a Tree, origins: &Origins, node: u32) -> Option<&'a Tree>
+    requires { places_of origins.now ≡ origins_of tree.now }
+    ensures { option_copied result ≡ piece_of tree.now node }
+{
+    match origins.nodes.get(node as usize) {
+        Some(at) => part_at(tree, *at),
+        None => None,
+    }
+}
+
+// The same by what the names of the source belong to.
+fn find_piece(alloc: Global, scoped: &Scoped, node: u32) -> Result<Option<&Tree>, AllocError>
     ensures { IfOk result (λ piece. option_copied piece ≡ piece_of (scoped_tree scoped.now) node) }
 {
     let origins = find_origins(alloc, scoped)?;
-    match origins.nodes.get(node as usize) {
-        Some(at) => Ok(part_at(scoped.tree(), *at)),
-        None => Ok(None),
-    }
+    Ok(piece_of(scoped.tree(), &origins, node))
 }
 
 // What is said by what the names of the source belong to.
@@ -112,7 +113,7 @@ fn text_of_scoped(
     requires row { IsRow judged.now.certificate.now judged.now.number row.node row.line }
     ensures { IfOk result (λ text. TellsJudgment judged.now.file.now judged.now.source.now judged.now.certificate.now judged.now.number text.items) }
 {
-    let piece = piece_of(alloc, scoped, row.node)?;
+    let piece = find_piece(alloc, scoped, row.node)?;
     let mut text = Vec::new(alloc);
     put_found(&mut text, judged.file, judged.source, row, piece)?;
     Ok(text)

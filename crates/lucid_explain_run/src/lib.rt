@@ -3,9 +3,9 @@
 #![tactic(auto)]
 
 pub use crate::depth::{TooDeep, explain_depth};
-pub use crate::find::part_at;
+pub use crate::find::{own_place, part_at};
 pub use crate::inputs::{Lacking, explain_free, explain_inputs};
-pub use crate::judgment::explain_judgment;
+pub use crate::judgment::{explain_judgment, piece_of};
 pub use crate::prompt::explain_prompt;
 
 mod depth;

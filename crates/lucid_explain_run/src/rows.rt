@@ -58,6 +58,7 @@ pub(crate) fn row_of(
     match read_why(alloc, certificate) {
         Ok(why) => Ok(row_in(certificate, &why, number)),
         Err(WhyRefusal::Form { line }) => {
+            // For the proof: bytes with a wrong line are no certificate's text.
             no_text(certificate, line, number);
             Ok(None)
         }
