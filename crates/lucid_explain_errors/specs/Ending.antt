@@ -1,5 +1,5 @@
 -- What is said of the judgment with which a way ends: the place of its piece in the source, and why it has its value.
-use Rattle.std.specs.Prelude.{ℕ, ◌+◌, ◌-◌, List, [], ◌∷◌, ◌++◌, length, map, drop, min, codes, decimal, Option, Some, None, slice_get}
+use Rattle.std.specs.Prelude.{ℕ, ◌+◌, ◌-◌, List, [], ◌++◌, length, map, drop, min, codes, decimal, Option, Some, None, slice_get}
 use Rattle.lucid_value.specs.Plain.{PlainValue}
 use Rattle.lucid_ops.specs.Rows.{operator_row}
 use Rattle.lucid_tree.specs.declared.form.Form.{Form}

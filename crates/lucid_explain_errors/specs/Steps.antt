@@ -1,5 +1,5 @@
 -- The steps that are told of a way: the judgments of names and calls on it.
-use Rattle.std.specs.Prelude.{◌≡◌, ℕ, ◌-◌, ◌≤◌, nat_le, Bool, is_some, if◌then◌else◌, List, [], ◌∷◌, ◌++◌, length, map, take, drop, filter, codes, decimal, Option, Some, None, slice_get}
+use Rattle.std.specs.Prelude.{◌≡◌, ℕ, ◌-◌, ◌≤◌, nat_le, Bool, is_some, if◌then◌else◌, List, [], ◌++◌, length, map, take, drop, filter, codes, decimal, Option, Some, None, slice_get}
 use Rattle.std.specs.List.{flat_map}
 use Rattle.lucid_tree.specs.Tree.{PlainTree}
 use Rattle.lucid_scan.specs.Refusals.{most_source_bytes}

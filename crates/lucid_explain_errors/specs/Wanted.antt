@@ -1,11 +1,11 @@
 -- What an operator wants of its arguments, the words for that, and whether arguments are that. No argument may be `error`.
 use Rattle.std.specs.Prelude.{ℕ, Bool, true, false, ◌&&◌, not, List, [], ◌∷◌, codes, Option, Some, None}
 use Rattle.std.specs.declared.cmp.Ordering.{Ordering}
-use Rattle.lucid_value.specs.Plain.{PlainValue, int, truth, word, text, list, eod, fault}
+use Rattle.lucid_value.specs.Plain.{PlainValue, int, truth, word, text, list}
 use Rattle.lucid_value.specs.Texts.{order_of}
 use Rattle.lucid_ops.specs.Algebra.{is_error}
 use Rattle.lucid_ops.specs.declared.op.Op.{Op}
-use Rattle.lucid_ops.specs.declared.op.Op.TheVariants.{Add, Sub, Mul, Div, Mod, Pow, Neg, Abs, Eq, Ne, Lt, Le, Gt, Ge, Cmp, Not, Head, Tail, Cons, Append, Join, Length, Substr, Nth, MakeWord, MakeString, IsInt, IsWord, IsString, IsList, IsTruth, IsNull, IsAtom, IsEod, IsError}
+use Rattle.lucid_ops.specs.declared.op.Op.TheVariants.{Add, Sub, Mul, Div, Mod, Pow, Neg, Abs, Lt, Le, Gt, Ge, Cmp, Not, Head, Tail, Cons, Append, Join, Length, Substr, Nth, MakeWord, MakeString}
 use Rattle.lucid_explain_errors.specs.declared.wanted.Wanted.{Wanted}
 use Rattle.lucid_explain_errors.specs.declared.wanted.Wanted.TheVariants as wanted
 

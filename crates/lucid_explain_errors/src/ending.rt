@@ -3,7 +3,6 @@ ghost use Rattle.std.specs.Prelude.{◌≡◌, ◌++◌, ◌+◌, ℕ, map, Some
 ghost use Rattle.lucid_value.specs.View.{plain};
 ghost use Rattle.lucid_tree.specs.Tree.{apply, stream};
 ghost use Rattle.lucid_tree.specs.Shape.{head_of};
-ghost use Rattle.lucid_explain_run.specs.Parts.{own_place};
 ghost use Rattle.lucid_cert_rules.specs.Certificates.{plain_judgment};
 ghost use Rattle.lucid_explain_errors.specs.Steps.{plain_sight, FitsTree};
 ghost use Rattle.lucid_explain_errors.specs.Ending.{form_text, last_of, got_text, head_error, head_end, head_cause, line_text, piece_cause, seen_text, element_text, own_place_text, found_text, ending_text, ending_at};
@@ -11,12 +10,13 @@ ghost use Rattle.lucid_explain_errors.specs.Inputs.{line_of};
 
 use crate::cause::{cause_by, put_cause};
 use crate::inputs::{line_of, put_line_seen};
-use crate::steps::{Sight, piece_of};
+use crate::steps::Sight;
 use crate::texts::{put_gets, put_point};
 use crate::traced::Traced;
 use crate::ways::values_at;
 use lucid_cert_rules::JudgmentRow;
 use lucid_explain_places::{put_number, put_place};
+use lucid_explain_run::{own_place, piece_of};
 use lucid_ops::Op;
 use lucid_tree::{Form, Head, Shape, Tree};
 use lucid_value::Value;
@@ -221,13 +221,6 @@ fn put_element(
     }
 }
 
-// A piece's own place.
-fn own_place(piece: &Tree) -> u32
-    ensures { result ≡ own_place piece.now }
-{
-    piece.at
-}
-
 // Appends the place of a piece.
 fn put_own_place(text: &mut Vec<u8>, sight: &Sight<'_>, piece: &Tree) -> Result<(), AllocError>
     requires { FitsTree sight.now }
@@ -269,7 +262,7 @@ fn put_row(
     requires { FitsTree sight.now }
     ensures { OnOk result (text.new.items ≡ text.old.items ++ ending_text (plain_sight sight.now) (Some (plain_judgment row.now))) }
 {
-    match piece_of(sight, row.node) {
+    match piece_of(sight.tree, sight.origins, row.node) {
         Some(piece) => put_found(alloc, text, sight, row, piece),
         None => Ok(()),
     }

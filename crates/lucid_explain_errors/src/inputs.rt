@@ -1,5 +1,5 @@
 //! A line of an input, as it is told.
-ghost use Rattle.std.specs.Prelude.{◌≡◌, ◌++◌, map, take, OnOk, option_map};
+ghost use Rattle.std.specs.Prelude.{◌≡◌, ◌++◌, OnOk};
 ghost use Rattle.std.specs.Option.{option_copied};
 ghost use Rattle.lucid_explain_errors.specs.Inputs.{is_of, input_of, line_at, line_of, short_shown, is_quotable, string_text, quoted_text, has_comma, comma_text, mark_text, shown_line, line_seen, line_seen_if};
 

@@ -1,10 +1,7 @@
 //! The steps that are told of a way.
 ghost use Rattle.std.specs.Prelude.{◌≡◌, ◌++◌, map, Some, IfOk, OnOk};
 ghost use Rattle.std.specs.List.{flat_map};
-ghost use Rattle.std.specs.Option.{option_copied};
-ghost use Rattle.lucid_compile.specs.Origins.{places_of, origins_of};
 ghost use Rattle.lucid_cert_rules.specs.Certificates.{plain_judgment};
-ghost use Rattle.lucid_explain_run.specs.Pieces.{piece_of};
 ghost use Rattle.lucid_explain_errors.specs.Steps.{plain_sight, FitsTree, is_named, named, step_text, step_at, left_out_text, steps_text};
 
 use crate::inputs::Input;
@@ -14,7 +11,7 @@ use lucid_cert_rules::{JudgmentRow, asked_at};
 use lucid_compile::Origins;
 use lucid_equations::Table;
 use lucid_explain_places::put_number;
-use lucid_explain_run::part_at;
+use lucid_explain_run::piece_of;
 use lucid_tree::Tree;
 use std::alloc::{AllocError, Global};
 
@@ -36,17 +33,6 @@ pub(crate) struct Sight<'a> {
     pub(crate) judgments: &'a [JudgmentRow],
     pub(crate) inputs: &'a [Input],
     pub(crate) traced: Traced,
-}
-
-/// The piece from which the node of a number comes.
-pub(crate) fn piece_of<'a>(sight: &Sight<'a>, node: u32) -> Option<&'a Tree>
-    requires { places_of sight.now.origins.now ≡ origins_of sight.now.tree.now }
-    ensures { option_copied result ≡ piece_of sight.now.tree.now node }
-{
-    match sight.origins.nodes.get(node as usize) {
-        Some(at) => part_at(sight.tree, *at),
-        None => None,
-    }
 }
 
 // Whether the judgment of a number is of a name or a call.
@@ -77,7 +63,7 @@ fn put_step(text: &mut Vec<u8>, sight: &Sight<'_>, row: &JudgmentRow) -> Result<
     requires { FitsTree sight.now }
     ensures { OnOk result (text.new.items ≡ text.old.items ++ step_text (plain_sight sight.now) (Some (plain_judgment row.now))) }
 {
-    put_called_if(text, piece_of(sight, row.node))?;
+    put_called_if(text, piece_of(sight.tree, sight.origins, row.node))?;
     put_point(text, b" at time ", row.time, row.space)?;
     text.extend_from_slice(traced_text(sight.traced))
 }
