@@ -17,7 +17,8 @@ use Rattle.lucid_explain_errors.specs.declared.inputs.Input.{Input}
 use Rattle.lucid_explain_errors.specs.Errors.{TellsError}
 use Rattle.lucid_explain_report.specs.Files.{Files, Held, holds, unread, gone, IsSeen}
 use Rattle.lucid_explain_report.specs.Said.{past_certificate, names_given, given_file, source_file}
-use Rattle.lucid_explain_command.specs.Prompted.{asks_lines, asks_columns}
+use Rattle.lucid_explain_report.specs.Causes.{asks_columns}
+use Rattle.lucid_explain_command.specs.Prompted.{asks_lines}
 
 -- a sink in memory of which these bytes are written
 abbrev pub in_memory : (bytes : List ℕ) → (faults late : ℕ) → Told

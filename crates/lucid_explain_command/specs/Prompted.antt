@@ -4,15 +4,12 @@ use Rattle.clap.specs.Words.{Text}
 use Rattle.lucid_words.specs.Asked.{PlainWords, words_asked}
 use Rattle.lucid_explain_run.specs.Prompts.{TellsPrompt}
 use Rattle.lucid_explain_report.specs.Files.{Files, Held, holds, unread, gone, IsSeen}
-use Rattle.lucid_explain_report.specs.Causes.{is_none_of}
+use Rattle.lucid_explain_report.specs.Causes.{asks_columns}
 use Rattle.lucid_explain_report.specs.Said.{past_source, names_given, source_file}
 
--- The words ask for a text of the program; or for columns.
+-- The words ask for a text of the program.
 abbrev pub asks_text : PlainWords → Bool
 asks_text asked = asked.print || asked.cycles || asked.flat || asked.from_flat
-
-abbrev pub asks_columns : PlainWords → Bool
-asks_columns asked = not (is_none_of asked.columns)
 
 -- they ask for lines of values, and for no certificate
 abbrev pub asks_lines : PlainWords → Bool

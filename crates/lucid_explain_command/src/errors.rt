@@ -9,9 +9,9 @@ ghost use Rattle.lucid_explain_command.specs.Errors.{value_file, behind_free, Sa
 
 use crate::again::inputs_again;
 use crate::certified::{Asked, certificate_of};
-use crate::prompt::{asks_columns, asks_lines};
+use crate::prompt::asks_lines;
 use lucid_explain_errors::explain_error;
-use lucid_explain_report::{Outlook, given_names};
+use lucid_explain_report::{Outlook, asks_columns, given_names};
 use lucid_explain_run::explain_prompt;
 use lucid_words::{Source, Words, WordsRefusal, read_words};
 use std::alloc::{AllocError, Global};

@@ -3,11 +3,12 @@ ghost use Rattle.std.specs.Prelude.{◌≡◌, false, map, Some, None, IfOk};
 ghost use Rattle.std.specs.String.{string_bytes};
 ghost use Rattle.lucid_words.specs.Asked.{plain_words, words_asked};
 ghost use Rattle.lucid_explain_run.specs.Prompts.{TellsPrompt};
+ghost use Rattle.lucid_explain_report.specs.Causes.{asks_columns};
 ghost use Rattle.lucid_explain_report.specs.Files.{plain_again};
 ghost use Rattle.lucid_explain_report.specs.Said.{names_given};
-ghost use Rattle.lucid_explain_command.specs.Prompted.{asks_text, asks_lines, asks_columns, run_file, PromptsBy, IsPrompt};
+ghost use Rattle.lucid_explain_command.specs.Prompted.{asks_text, asks_lines, run_file, PromptsBy, IsPrompt};
 
-use lucid_explain_report::{Again, Outlook, PAST_SOURCE, given_names};
+use lucid_explain_report::{Again, Outlook, PAST_SOURCE, asks_columns, given_names};
 use lucid_explain_run::explain_prompt;
 use lucid_words::{Source, Words, WordsRefusal, read_words};
 use std::alloc::{AllocError, Global};
@@ -24,13 +25,6 @@ pub(crate) fn asks_lines(asked: &Words) -> bool
     ensures { result ≡ asks_lines (plain_words asked.now) }
 {
     !asks_text(asked) && asked.why.is_none() && asked.check.is_empty()
-}
-
-/// Whether they ask for columns.
-pub(crate) fn asks_columns(asked: &Words) -> bool
-    ensures { result ≡ asks_columns (plain_words asked.now) }
-{
-    !asked.columns.is_empty()
 }
 
 // What is said of a source before it is run with these words.

@@ -1,7 +1,6 @@
 -- The first word that doesn't go with those before it.
 use Rattle.std.proofs.Common.{◌≡◌, ℕ, ◌+◌, ◌<◌, true, false, List, length, map, take, get_or, String, Global, min, ap, refl, sym, subst, ◌∙◌}
 use Rattle.std.specs.String.{string_bytes}
-use Rattle.std.specs.Prelude.{slice_get, Some}
 use Rattle.std.proofs.lemmas.List.{take-map, get_or-map, length-map}
 use Rattle.std.proofs.lemmas.Option.{slice_get_read}
 use Rattle.lucid_explain_report.specs.Said.{goes_on, GoOn, wrong_text, lacking_text, SaysWords, wrong, lacking}

@@ -1,11 +1,10 @@
 -- Files that are told, one behind another.
-use Rattle.std.proofs.Common.{◌==◌, length, arith, Result, Ok, Err, is_ok, OnOk, ◌≡◌, refl, ℕ, List, [], ◌∷◌, ◌++◌, Bool, true, false, append_assoc, append-nil, ap, sym, subst, ◌∙◌}
+use Rattle.std.proofs.Common.{Result, Ok, Err, is_ok, OnOk, ◌≡◌, refl, ℕ, List, [], ◌∷◌, ◌++◌, Bool, true, false, append_assoc, append-nil, ap, sym, subst, ◌∙◌}
 use Rattle.std.specs.Prelude.{if◌then◌else◌}
-use Rattle.std.proofs.lemmas.Bool.Decides.{nat_tests}
 use Rattle.std.specs.List.{flat_map}
 use Rattle.std.proofs.lemmas.Grind.{flat_map-append}
 use Rattle.lucid_explain_report.specs.Files.{Files, Held, IsSeen, is_unread}
-use Rattle.lucid_explain_report.specs.Said.{AreUnread, no_names, one_more, TellsFiles, fault_text, or_unknown, unknown_text}
+use Rattle.lucid_explain_report.specs.Said.{AreUnread, no_names, one_more, TellsFiles, fault_text}
 
 push_if : (b : Bool) (name : List ℕ) (xs ys : List (List ℕ)) → (if b then name ∷ xs else xs) ++ ys ≡ (if b then name ∷ (xs ++ ys) else xs ++ ys)
 push_if true name xs ys = refl

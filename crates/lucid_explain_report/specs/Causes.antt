@@ -1,5 +1,5 @@
 -- What explains why a call was stopped: what of its source, a certificate, files, or the reason alone.
-use Rattle.std.specs.Prelude.{Bool, true, false, ◌&&◌, not, ◌==◌, length, List, Option, Some, None, if◌then◌else◌}
+use Rattle.std.specs.Prelude.{Bool, true, false, ◌&&◌, not, ◌==◌, length, Option, Some, None, if◌then◌else◌}
 use Rattle.lucid_words.specs.Plain.{PlainSource, file, made}
 use Rattle.lucid_words.specs.Asked.{PlainWords}
 use Rattle.lucid_explain_source.specs.declared.fault.Fault.{Fault}
@@ -10,10 +10,6 @@ use Rattle.lucid_report.specs.declared.stop.Stop.{Stop}
 use Rattle.lucid_report.specs.declared.stop.Stop.TheVariants as stop
 use Rattle.lucid_explain_report.specs.declared.causes.Cause.{Cause}
 use Rattle.lucid_explain_report.specs.declared.causes.Cause.TheVariants as cause
-
--- there are none of them
-abbrev pub is_none_of : {X : Type 0} → List X → Bool
-is_none_of xs = length xs == 0
 
 -- the fault of a source for which a call is refused
 abbrev pub fault_of : Refusal → Option Fault
@@ -73,8 +69,12 @@ is_file (made number) = false
 abbrev pub reads_source : PlainWords → Bool
 reads_source asked = is_file asked.source && not asked.from_flat
 
+-- the words ask for columns
+abbrev pub asks_columns : PlainWords → Bool
+asks_columns asked = not (length asked.columns == 0)
+
 abbrev pub file_cause : PlainWords → Stop → Cause
-file_cause asked why = if is_none_of asked.columns then source_cause why else of_columns (source_cause why)
+file_cause asked why = if asks_columns asked then of_columns (source_cause why) else source_cause why
 
 abbrev pub cause_of : PlainWords → Stop → Cause
 cause_of asked why = if reads_source asked then file_cause asked why else other_cause why

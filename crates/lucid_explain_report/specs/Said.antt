@@ -1,13 +1,15 @@
 -- What is said behind the line that a call reported.
-use Rattle.std.specs.Prelude.{◌≡◌, ◌≢◌, ℕ, ◌+◌, ◌<◌, Bool, true, false, ◌&&◌, ◌||◌, not, nat_eq, nat_le, ◌==◌, List, [], ◌∷◌, ◌++◌, length, map, take, min, codes, Option, Some, None, is_some, if◌then◌else◌}
+use Rattle.std.specs.Prelude.{◌≡◌, ◌≢◌, ℕ, ◌+◌, ◌<◌, Bool, true, false, ◌&&◌, ◌||◌, not, nat_le, ◌==◌, List, [], ◌∷◌, ◌++◌, length, map, take, min, codes, Option, Some, None, is_some, if◌then◌else◌}
 use Rattle.std.specs.Borrow.{Bor}
-use Rattle.std.specs.List.{flat_map, list_any, prefix_len, slice_get, starts_with}
+use Rattle.std.specs.List.{flat_map, list_any, prefix_len, slice_get}
 use Rattle.clap.specs.Words.{Text}
 use Rattle.lucid_value.specs.Plain.{same_bytes}
+use Rattle.lucid_scan.specs.Refusals.{most_source_bytes}
 use Rattle.lucid_words.specs.Plain.{PlainSource, file, made}
 use Rattle.lucid_words.specs.Asked.{PlainWords, words_asked}
 use Rattle.lucid_explain_source.specs.declared.fault.Fault.{Fault}
 use Rattle.lucid_explain_source.specs.Accepted.{IsAccepted}
+use Rattle.lucid_explain_source.specs.Characters.{begins}
 use Rattle.lucid_explain_places.specs.Shown.{place_text, shown_byte}
 use Rattle.lucid_explain_source.specs.Sources.{Explains}
 use Rattle.lucid_explain_run.specs.Inputs.{TellsInputs, TellsFree}
@@ -21,13 +23,9 @@ use Rattle.lucid_explain_report.specs.Files.{Files, Held, holds, unread, gone, i
 use Rattle.lucid_explain_report.specs.Stops.{stop_text}
 use Rattle.lucid_explain_report.specs.Causes.{cause_of}
 
--- The text begins with the other one.
-unfoldable pub begins : (text other : List ℕ) → Bool
-begins text other = starts_with nat_eq text other
-
 -- one byte more than a source may have
 abbrev pub past_source : ℕ
-past_source = 1048577
+past_source = most_source_bytes + 1
 
 -- the names of inputs for which files are given
 abbrev pub given_name : Text × Text → Text
@@ -102,7 +100,7 @@ pub data TellsFault (fault : Fault) (name source alone text : List ℕ) : Type 0
 
 -- the place at which a source isn't judged, where it is one of the source
 abbrev pub place_said : (name source : List ℕ) → (at : ℕ) → List ℕ
-place_said name source at = if nat_le at (length source) && nat_le (length source) 1048576 then place_text name source at else []
+place_said name source at = if nat_le at (length source) && nat_le (length source) most_source_bytes then place_text name source at else []
 
 -- The text says which piece of the source has the node of a judgment, where the certificate is seen; and behind that, and else, what is said alone.
 abbrev pub TellsPiece : (name source : List ℕ) → (certificate : Held) → (number : ℕ) → (alone text : List ℕ) → Type 0

@@ -2,7 +2,7 @@
 ghost use Rattle.std.specs.Prelude.{◌≡◌};
 ghost use Rattle.lucid_words.specs.Asked.{plain_words};
 ghost use Rattle.lucid_words.specs.Plain.{plain_source};
-ghost use Rattle.lucid_explain_report.specs.Causes.{fault_of, program_cause, refusal_cause, source_cause, other_cause, of_columns, is_file, reads_source, file_cause, cause_of};
+ghost use Rattle.lucid_explain_report.specs.Causes.{fault_of, program_cause, refusal_cause, source_cause, other_cause, of_columns, is_file, reads_source, asks_columns, file_cause, cause_of};
 
 use lucid_explain_source::Fault;
 use lucid_report::{Refusal, Stop};
@@ -128,14 +128,21 @@ fn reads_source(asked: &Words) -> bool
     is_file(&asked.source) && !asked.from_flat
 }
 
+/// Whether the words ask for columns.
+pub fn asks_columns(asked: &Words) -> bool
+    ensures { result ≡ asks_columns (plain_words asked.now) }
+{
+    !asked.columns.is_empty()
+}
+
 // What explains a stop of a call for a program, or for columns of it.
 fn file_cause(asked: &Words, stop: &Stop) -> Cause
     ensures { result ≡ file_cause (plain_words asked.now) stop.now }
 {
-    if asked.columns.is_empty() {
-        source_cause(stop)
-    } else {
+    if asks_columns(asked) {
         of_columns(source_cause(stop))
+    } else {
+        source_cause(stop)
     }
 }
 

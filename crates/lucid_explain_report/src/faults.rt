@@ -1,6 +1,5 @@
 //! What is said of a read fault.
 ghost use Rattle.std.specs.Prelude.{◌≡◌, ◌++◌, map, [], ◌∷◌, IfOk, OnOk};
-ghost use Rattle.std.specs.String.{string_bytes};
 ghost use Rattle.lucid_words.specs.Asked.{plain_words};
 ghost use Rattle.lucid_words.specs.Plain.{plain_given, plain_source};
 ghost use Rattle.lucid_explain_report.specs.Files.{Held, IsSeen, is_unread, plain_again};

@@ -1,6 +1,7 @@
 //! What explains why a call of the command was stopped: by its words, by the bytes that it read of its source, and by the reason.
 #![tactic(auto)]
 
+pub use crate::causes::asks_columns;
 pub use crate::explaining::explain_stop;
 pub use crate::judgments::PAST_CERTIFICATE;
 pub use crate::outlook::{Again, Outlook, PAST_SOURCE, RealOutlook};

@@ -1,14 +1,15 @@
 //! What explanations look at beside the call.
-ghost use Rattle.std.specs.Prelude.{◌≡◌, ℕ, Bool, List, Option, IfOk};
+ghost use Rattle.std.specs.Prelude.{◌≡◌, Bool, IfOk};
 ghost use Rattle.lucid_explain_report.specs.Files.{Files, IsAgain};
 
 use lucid_ports::{Places, PortFault, RealPlaces, read_at_most};
+use lucid_scan::MAX_SOURCE_BYTES;
 use std::alloc::{AllocError, Global};
 use std::fs;
 use std::io::IsTerminal;
 
 /// One byte more than a source may have: so much of it is read again.
-pub const PAST_SOURCE: usize = 1_048_577;
+pub const PAST_SOURCE: usize = MAX_SOURCE_BYTES + 1;
 
 /// What comes of reading a file again.
 #[derive(Drop)]

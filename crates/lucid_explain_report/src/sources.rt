@@ -14,6 +14,7 @@ use lucid_explain_places::put_place;
 use lucid_explain_run::{TooDeep, explain_depth, explain_free, explain_inputs};
 use lucid_explain_source::{Explanation, Fault, explain_source};
 use lucid_report::Stop;
+use lucid_scan::MAX_SOURCE_BYTES;
 use lucid_value::Name;
 use lucid_words::{Given, Words};
 use std::alloc::{AllocError, Global};
@@ -26,9 +27,6 @@ pub(crate) struct Stopped<'a> {
     pub(crate) source: &'a [u8],
     pub(crate) stop: &'a Stop,
 }
-
-// The most bytes of a source.
-const MOST_SOURCE: usize = 1_048_576;
 
 /// The names for which the words give files.
 pub fn given_names(alloc: Global, given: &[Given]) -> Result<Vec<Name>, AllocError>
@@ -110,7 +108,7 @@ pub(crate) fn text_of_free(alloc: Global, stopped: &Stopped<'_>) -> Result<Vec<u
 fn put_within(text: &mut Vec<u8>, name: &[u8], source: &[u8], at: u32) -> Result<(), AllocError>
     ensures { OnOk result (text.new.items ≡ text.old.items ++ place_said name.now source.now at) }
 {
-    if at as usize <= source.len() && source.len() <= MOST_SOURCE {
+    if at as usize <= source.len() && source.len() <= MAX_SOURCE_BYTES {
         put_place(text, name, source, at as usize)
     } else {
         Ok(())

@@ -2,22 +2,15 @@
 ghost use Rattle.std.specs.Prelude.{◌≡◌, ℕ, ◌<◌, ◌≤◌, ◌+◌, ◌++◌, length, min, map, take, true, false, not, ◌==◌, IfOk, IfSome, IfNone, OnOk};
 ghost use Rattle.std.specs.String.{string_bytes};
 ghost use Rattle.std.specs.List.{prefix_len};
-ghost use Rattle.clap.specs.Words.{Text as Word};
-ghost use Rattle.lucid_explain_report.specs.Said.{goes_on, is_right_with, option_of, is_number_option, argument_advice, stands_alone, word_advice, wrong_text, lacking_text, texts_of, SaysWords, begins};
+ghost use Rattle.lucid_explain_report.specs.Said.{goes_on, is_right_with, option_of, is_number_option, argument_advice, stands_alone, word_advice, wrong_text, texts_of, SaysWords};
 
 use crate::faults::put_front;
+use lucid_explain_source::begins;
 use lucid_words::{WordsRefusal, read_words};
 use std::alloc::{AllocError, Global};
 
 // More words than this are not gone through.
 const MOST_WORDS: usize = 100;
-
-// Whether the text begins with the other one.
-fn begins(text: &[u8], other: &[u8]) -> bool
-    ensures { result ≡ begins text.now other.now }
-{
-    text.starts_with(other)
-}
 
 // Copies of words.
 fn copies_of(alloc: Global, words: &[String]) -> Result<Vec<String>, AllocError>

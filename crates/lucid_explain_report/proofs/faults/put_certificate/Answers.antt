@@ -1,6 +1,4 @@
-use Rattle.std.proofs.Common.{◌≡◌, ◌==◌, length, List, [], ◌∷◌, true, false, sym, subst, ◌∙◌}
-use Rattle.std.proofs.lemmas.Result.{on_ok_weaker}
-use Rattle.lucid_explain_report.specs.Said.{TellsFiles, certificate_files}
+use Rattle.std.proofs.Common.{◌≡◌, ◌==◌, length, true, false, sym, ◌∙◌}
 use Rattle.lucid_explain_report.proofs.Told.{told_none}
 use Rattle.lucid_explain_report.proofs.faults.put_certificate.Goals as goal
 

@@ -1,5 +1,4 @@
-use Rattle.std.proofs.Common.{List, ◌∷◌, [], sym, subst}
-use Rattle.std.proofs.lemmas.Result.{on_ok_weaker}
+use Rattle.std.proofs.Common.{sym, subst}
 use Rattle.lucid_words.specs.declared.Source.{Source}
 use Rattle.lucid_words.specs.Plain.{plain_source}
 use Rattle.lucid_explain_report.specs.Said.{source_files, TellsFiles}
