@@ -87,7 +87,7 @@ is_behind_parameter those = has (codes ")") those && not (has (codes "+") those)
 -- a parenthesis that is open
 abbrev pub open_hint : (read : List ℕ) → List ℕ
 open_hint read =
-    if same_bytes read (codes ",") then codes "Parentheses that are no call have one expression in them: a list is `x :: y :: []`. Reserved words, as `if` and `next`, are no functions: a choice is written `if .. then .. else .. fi`.\n"
+    if same_bytes read (codes ",") then codes "Parentheses that are no call have one expression in them: a list is `x :: y :: []`. Reserved words, as `if` and `next`, are no functions: a choice is written `if .. then .. else .. fi`, and the value of n two times later `next next n`.\n"
     else codes "A `(` stands open before this: its `)` is missing.\n"
 
 -- what ends nothing, where the program may end
@@ -103,7 +103,8 @@ whole_hint a =
 -- of a `=` alone
 abbrev pub alone_hint : (read : List ℕ) → List Candidate → List ℕ
 alone_hint read those =
-    if is_whole those then codes "A program begins with an expression, and its definitions stand behind `where`: `n where n = 1; end`. To compare, write `eq`.\n"
+    if has (codes "end") those then codes "The name that is defined is missing before this.\n"
+    else if is_whole those then codes "A program begins with an expression, and its definitions stand behind `where`: `n where n = 1; end`. To compare, write `eq`.\n"
     else if is_behind_parameter those then open_hint read
     else if has (codes ";") those then codes "A definition has one `=`: to compare, write `eq`.\n"
     else codes "`=` stands in definitions alone: to compare, write `eq`.\n"
@@ -159,11 +160,27 @@ abbrev pub is_factor : PlainAround → Bool
 is_factor a =
     begins_with is_ascii_digit a.before && begins_with is_ascii_alphabetic a.read && not (is_reserved a.read) && not (same_bytes a.after (codes "="))
 
+-- the commonest operators that stand before what they take
+abbrev pub is_shift : (read : List ℕ) → Bool
+is_shift read = same_bytes read (codes "first") || same_bytes read (codes "next")
+
+abbrev pub is_prefix : (read : List ℕ) → Bool
+is_prefix read = is_shift read || same_bytes read (codes "hd") || same_bytes read (codes "tl") || same_bytes read (codes "length")
+
+-- what ends an expression, or begins its definitions
+abbrev pub ends_subject : (after : List ℕ) → Bool
+ends_subject after = is_closing after || same_bytes after (codes "where")
+
+-- such an operator behind an expression, and nothing behind it that it could take
+abbrev pub is_postfix : PlainAround → List Candidate → Bool
+is_postfix a those = is_prefix a.read && ends_subject a.after && has (codes "+") those
+
 -- of an operator that lacks before the place, or the end of a definition
 abbrev pub missing_hint : PlainAround → List Candidate → List ℕ
 missing_hint a those =
-    if is_argument a those then codes "Is an operator or `where` missing before this? Arguments stand in parentheses, as in `f(x)`, and a string of words as `two words'.\n"
-    else if is_factor a then codes "Is an operator missing before this? A product is written `2 * n`, and the value of n two times later `next next n`.\n"
+    if is_postfix a those then codes "This operator stands before what it takes, as in `next n`.\n"
+    else if is_argument a those then codes "Is an operator or `where` missing before this, or misspelt? Arguments stand in parentheses, as in `f(x)`, and a string of words as `two words'.\n"
+    else if is_factor a then codes "Is an operator missing before this, or misspelt? A product is written `2 * n`, a value and then others `0 fby n`, and the value of n two times later `next next n`.\n"
     else definition_hint a.read those
 
 -- of a token that lacks before the place in an `if` or a call
@@ -204,6 +221,17 @@ is_parted a = same_bytes a.read (codes ";") && (same_bytes a.after (codes "else"
 abbrev pub is_listed : PlainAround → Bool
 is_listed a = same_bytes a.read (codes ",") && begins_with is_ascii_digit a.before && begins_with is_ascii_digit a.after
 
+-- a `)` behind an expression, in a definition or an `if` that has no `(` open
+abbrev pub is_unopened : (read : List ℕ) → List Candidate → Bool
+is_unopened read those = reads read (codes ")") (codes "where") those && is_open those && not (has (codes ")") those)
+
+-- of such a `)`: one before the definition or the `if` may be open
+abbrev pub unopened_hint : List Candidate → List ℕ
+unopened_hint those =
+    if has (codes ";") those then codes "In this definition no `(` is open: leave the `)` out, or end the definition with `;`, and its block with `end`.\n"
+    else if has (codes "else") those then codes "In this `if` no `(` is open: leave the `)` out, or end the `if` with `else` and `fi`. To keep some values alone, write `n whenever n > 3`.\n"
+    else codes "In this `if` no `(` is open: leave the `)` out, or end the `if`, which has `then`, `else` and `fi`.\n"
+
 -- of a `fi` that lacks
 abbrev pub last_hint : (before : List ℕ) → List ℕ
 last_hint before =
@@ -223,6 +251,7 @@ ending_hint a those =
 abbrev pub closing_hint : PlainAround → List Candidate → List ℕ
 closing_hint a those =
     if is_parted a then codes "Before `else` and `fi` stands no `;`.\n"
+    else if is_unopened a.read those then unopened_hint those
     else if has (codes "fi") those then last_hint a.before
     else if has (codes "else") those then codes "An `if` has an `else`, and ends with `fi`. To keep some values alone, write `n whenever n > 3`.\n"
     else ending_hint a those
@@ -237,7 +266,7 @@ end_hint a those =
 unfoldable pub head_hint : PlainAround → List ℕ
 head_hint a =
     if is_step a.read && same_bytes a.after (codes "=") then codes "A name is defined once, for all times: `n = 0 fby n + 1;`.\n"
-    else if same_bytes a.read (codes "-") then codes "A name has letters, digits and `_` alone.\n"
+    else if same_bytes a.read (codes "-") && length a.gap == 0 then codes "A name has letters, digits and `_` alone.\n"
     else if same_bytes a.read (codes "::") then codes "Kinds of values aren't declared: behind the name stands `=`, and then what it is.\n"
     else if length a.read == 0 then codes "Behind `where` come the definitions, and then `end`.\n"
     else codes "A definition begins with the name that it defines, and then `=`: `n = 1;`. Parameters stand in parentheses: `f(x) = x + 1;`.\n"
@@ -271,30 +300,41 @@ first_hint read =
     if length read == 0 then codes "The program has no token: it is empty, or has blanks and comments alone. Is its file saved?\n"
     else codes "A program begins with an expression, and its definitions stand behind `where`: `n where n = 1; end`.\n"
 
+-- what follows the end of a definition, and begins none with its name
+abbrev pub is_remnant : PlainAround → Bool
+is_remnant a = same_bytes a.before (codes ";") && not (same_bytes a.after (codes "="))
+
+-- such an operator between two expressions
+abbrev pub is_cut : PlainAround → Bool
+is_cut a = is_remnant a && is_infix a.read
+
 -- by where the place stands
 unfoldable pub place_hint : PlainAround → List Candidate → List ℕ
 place_hint a those =
-    if has (codes "1") those && is_infix a.read then codes "This operator stands between two expressions, as `fby` in `0 fby n`.\n"
+    if is_cut a then codes "This operator stands between two expressions, as `fby` in `0 fby n`: before it stands no `;`.\n"
+    else if has (codes "1") those && is_infix a.read then codes "This operator stands between two expressions, as `fby` in `0 fby n`.\n"
     else if length a.before == 0 then first_hint a.read
     else if has (codes "is") those then head_hint a
     else if is_parameter those then parameter_hint a.read
     else end_hint a those
 
--- how other languages write the value before
-abbrev pub is_previous : (before : List ℕ) → Bool
-is_previous before = same_bytes before (codes "prev") || same_bytes before (codes "pre")
+-- how other languages write the value before; a program may have a name `last` of its own, and nothing in its line is behind that
+abbrev pub is_previous : PlainAround → Bool
+is_previous a =
+    same_bytes a.before (codes "prev") || same_bytes a.before (codes "pre")
+    || (same_bytes a.before (codes "last") && begins_with is_ascii_alphabetic a.read && not (is_reserved a.read) && not (breaks_line a.gap))
 
 -- a definition that was to begin with the time of a value
 abbrev pub is_moment : PlainAround → List Candidate → Bool
 is_moment a those =
-    has (codes "end") those && not (same_bytes a.after (codes "=")) && (same_bytes a.read (codes "first") || same_bytes a.read (codes "next"))
+    has (codes "end") those && not (same_bytes a.after (codes "=")) && is_shift a.read
 
 -- words of other languages, where a program goes on
 abbrev pub foreign_hint : PlainAround → List Candidate → List ℕ
 foreign_hint a those =
     if has (codes "where") those && same_bytes a.before (codes "let") then codes "There is no `let`: definitions stand behind `where`, as in `n where n = 1; end`.\n"
     else if has (codes "where") those && same_bytes a.before (codes "head") then codes "The first item of a list l is `hd l`, and the others are `tl l`.\n"
-    else if has (codes "where") those && is_previous a.before then codes "The value of n one time before is `0 fby n`, which is 0 at first.\n"
+    else if has (codes "where") those && is_previous a then codes "The value of n one time before is `0 fby n`, which is 0 at first.\n"
     else if is_moment a those then codes "A name is defined once, for all times: `n = 0 fby n + 1;`.\n"
     else place_hint a those
 
@@ -318,6 +358,7 @@ abbrev pub behind_hint : PlainAround → List Candidate → List ℕ
 behind_hint a those =
     if same_bytes a.before (codes "is") then codes "Behind `is` stands `current`: a definition is written with `=`.\n"
     else if same_bytes a.before (codes "return") then codes "There is no `return`: the right side of `=` is the value.\n"
+    else if same_bytes a.before (codes "print") then codes "There is no `print`: a program writes the values of its subject, with which it begins.\n"
     else if is_product a then codes "A product is written with `*`, as in `2 * n`. A number has digits alone.\n"
     else spoken_hint a those
 
@@ -333,7 +374,7 @@ are_both a before read = same_bytes a.before before && same_bytes a.read read
 abbrev pub arrow_hint : PlainAround → List Candidate → List ℕ
 arrow_hint a those =
     if are_both a (codes "=") (codes ">") then codes "A definition is written with `=` alone, as in `f(x) = x + 1;`.\n"
-    else if are_both a (codes "-") (codes ">") then codes "There is no `->`: a function is written `f(x) = x + 1;`, and `0 fby n` is 0 and then n.\n"
+    else if are_both a (codes "-") (codes ">") then codes "There is no `->`: a function is written `f(x) = x + 1;`, and for `0 -> pre n + 1` write `0 fby n + 1`.\n"
     else behind_hint a those
 
 unfoldable pub pair_hint : PlainAround → List Candidate → List ℕ
@@ -358,12 +399,25 @@ is_remark a those = are_both a (codes "(") (codes "*") || is_dashed a those
 abbrev pub chains : (read : List ℕ) → List Candidate → Bool
 chains read those = is_comparison read && has (codes "+") those
 
+-- `then` or `else` behind an expression, in a definition, a parenthesis or a whole program that has no `if` open
+abbrev pub is_astray : (read : List ℕ) → List Candidate → Bool
+is_astray read those =
+    (same_bytes read (codes "then") || same_bytes read (codes "else")) && has (codes "+") those
+    && not (has (codes "then") those || has (codes "else") those || has (codes "fi") those)
+
+abbrev pub astray_hint : List Candidate → List ℕ
+astray_hint those =
+    if has (codes ")") those then codes "A `(` stands open before this: its `)` is missing.\n"
+    else if has (codes ";") those then codes "In this definition no `if` is open: a choice is written `if .. then .. else .. fi`. What follows a first value stands behind `fby`, as in `0 fby n`.\n"
+    else codes "Before this no `if` is open: a choice is written `if .. then .. else .. fi`. What follows a first value stands behind `fby`, as in `0 fby n`.\n"
+
 abbrev pub word_hint : PlainAround → List Candidate → List ℕ
 word_hint a those =
     if reads a.read (codes "if") (codes "where") those then codes "A choice is written `if .. then .. else .. fi`.\n"
     else if reads a.read (codes "when") (codes "where") those then codes "A condition on times stands behind `whenever`, as in `n whenever n > 3`, and definitions stand behind `where`.\n"
     else if continues a.read those then codes "Write `else if .. then .. else .. fi fi`: each `if` ends with a `fi` of its own.\n"
     else if is_remark a those then codes "A comment begins with `//`.\n"
+    else if is_astray a.read those then astray_hint those
     else pair_hint a those
 
 -- of an operator
@@ -381,7 +435,7 @@ is_frozen read = same_bytes read (codes "current") || same_bytes read (codes "is
 abbrev pub frozen_hint : (read : List ℕ) → List ℕ
 frozen_hint read =
     if same_bytes read (codes "current") then codes "Write `k is current n;`, without `=`.\n"
-    else codes "`k is current n;` defines a plain name, behind `where`.\n"
+    else codes "To compare, write `eq`. `k is current n;` defines a plain name, behind `where`.\n"
 
 -- where the source ends with a comment that was to end before
 abbrev pub is_cut_off : PlainAround → Bool

@@ -2,7 +2,7 @@
 ghost use Rattle.std.specs.Prelude.{◌≡◌, ◌==◌, ℕ, ◌||◌, IfOk};
 ghost use Rattle.std.specs.Char.{is_ascii_alphabetic, is_ascii_digit};
 ghost use Rattle.lucid_explain_places.specs.Around.{plain_around};
-ghost use Rattle.lucid_explain_places.specs.Hints.{has, is_open, is_whole, is_closing, is_comparison, is_elif, is_step, is_part_word, lacks_operand, is_capital, begins_with, is_product, breaks_line, has_return, has_comment, is_swallowed, is_behind_parameter, open_hint, whole_hint, alone_hint, equals_hint, line_hint, is_argument, definition_hint, is_values, is_ended, is_defining, is_asked, is_factor, missing_hint, part_hint, lacking_hint, is_inner, inner_hint, is_parted, is_listed, last_hint, ending_hint, closing_hint, end_hint, head_hint, is_parameter, parameter_hint, is_between, is_infix, first_hint, place_hint, is_previous, is_moment, foreign_hint, is_loop, is_followed, spoken_hint, behind_hint, reads, is_behind_block, are_both, arrow_hint, pair_hint, continues, is_dashed, is_remark, chains, word_hint, operator_hint, is_frozen, frozen_hint, is_cut_off, token_hint, hint};
+ghost use Rattle.lucid_explain_places.specs.Hints.{has, is_open, is_whole, is_closing, is_comparison, is_elif, is_step, is_part_word, lacks_operand, is_capital, begins_with, is_product, breaks_line, has_return, has_comment, is_swallowed, is_behind_parameter, open_hint, whole_hint, alone_hint, equals_hint, line_hint, is_argument, definition_hint, is_shift, is_prefix, ends_subject, is_postfix, is_values, is_ended, is_defining, is_asked, is_factor, missing_hint, part_hint, lacking_hint, is_inner, inner_hint, is_parted, is_listed, is_unopened, unopened_hint, last_hint, ending_hint, closing_hint, end_hint, head_hint, is_parameter, parameter_hint, is_between, is_infix, first_hint, is_remnant, is_cut, place_hint, is_previous, is_moment, foreign_hint, is_loop, is_followed, spoken_hint, behind_hint, reads, is_behind_block, are_both, arrow_hint, pair_hint, continues, is_dashed, is_remark, chains, is_astray, astray_hint, word_hint, operator_hint, is_frozen, frozen_hint, is_cut_off, token_hint, hint};
 
 use crate::around::Around;
 use crate::candidates::Candidate;
@@ -167,7 +167,7 @@ fn open_hint(read: &[u8]) -> &'static [u8]
     ensures { result.now ≡ open_hint read.now }
 {
     if read == b",".as_slice() {
-        b"Parentheses that are no call have one expression in them: a list is `x :: y :: []`. Reserved words, as `if` and `next`, are no functions: a choice is written `if .. then .. else .. fi`.\n"
+        b"Parentheses that are no call have one expression in them: a list is `x :: y :: []`. Reserved words, as `if` and `next`, are no functions: a choice is written `if .. then .. else .. fi`, and the value of n two times later `next next n`.\n"
     } else {
         b"A `(` stands open before this: its `)` is missing.\n"
     }
@@ -196,7 +196,9 @@ fn whole_hint(around: &Around<'_>) -> &'static [u8]
 fn alone_hint(read: &[u8], those: &[Candidate]) -> &'static [u8]
     ensures { result.now ≡ alone_hint read.now those.now }
 {
-    if is_whole(those) {
+    if has(b"end", those) {
+        b"The name that is defined is missing before this.\n"
+    } else if is_whole(those) {
         b"A program begins with an expression, and its definitions stand behind `where`: `n where n = 1; end`. To compare, write `eq`.\n"
     } else if is_behind_parameter(those) {
         open_hint(read)
@@ -304,14 +306,46 @@ fn is_factor(around: &Around<'_>) -> bool
         && around.after != b"=".as_slice()
 }
 
+// Whether this is one of the commonest operators that stand before what they take.
+fn is_shift(read: &[u8]) -> bool
+    ensures { result ≡ is_shift read.now }
+{
+    read == b"first".as_slice() || read == b"next".as_slice()
+}
+
+fn is_prefix(read: &[u8]) -> bool
+    ensures { result ≡ is_prefix read.now }
+{
+    is_shift(read)
+        || read == b"hd".as_slice()
+        || read == b"tl".as_slice()
+        || read == b"length".as_slice()
+}
+
+// Whether this ends an expression, or its definitions begin.
+fn ends_subject(after: &[u8]) -> bool
+    ensures { result ≡ ends_subject after.now }
+{
+    is_closing(after) || after == b"where".as_slice()
+}
+
+// Whether this is such an operator behind an expression, and nothing stands behind it that it could take.
+fn is_postfix(around: &Around<'_>, those: &[Candidate]) -> bool
+    ensures { result ≡ is_postfix (plain_around around.now) those.now }
+{
+    is_prefix(around.read) && ends_subject(around.after) && has(b"+", those)
+}
+
 // A hint at an operator that lacks before the place, or at the end of a definition.
 fn missing_hint(around: &Around<'_>, those: &[Candidate]) -> &'static [u8]
     ensures { result.now ≡ missing_hint (plain_around around.now) those.now }
 {
-    if is_argument(around, those) {
-        b"Is an operator or `where` missing before this? Arguments stand in parentheses, as in `f(x)`, and a string of words as `two words'.\n"
+    if is_postfix(around, those) {
+        b"This operator stands before what it takes, as in `next n`.\n"
+    } else if is_argument(around, those) {
+        b"Is an operator or `where` missing before this, or misspelt? Arguments stand in parentheses, as in `f(x)`, and a string of words as `two words'.\n"
     } else if is_factor(around) {
-        b"Is an operator missing before this? A product is written `2 * n`, and the value of n two times later `next next n`.\n"
+        b"Is an operator missing before this, or misspelt? A product is written `2 * n`, a value and then others `0 fby n`, and the value of n two times later `next next n`.\n"
     } else {
         definition_hint(around.read, those)
     }
@@ -389,6 +423,26 @@ fn is_listed(around: &Around<'_>) -> bool
     around.read == b",".as_slice() && begins_number(around.before) && begins_number(around.after)
 }
 
+// Whether this is a `)` behind an expression, in a definition or an `if` that has no `(` open.
+fn is_unopened(read: &[u8], those: &[Candidate]) -> bool
+    ensures { result ≡ is_unopened read.now those.now }
+{
+    reads(read, b")", b"where", those) && is_open(those) && !has(b")", those)
+}
+
+// A hint at such a `)`.
+fn unopened_hint(those: &[Candidate]) -> &'static [u8]
+    ensures { result.now ≡ unopened_hint those.now }
+{
+    if has(b";", those) {
+        b"In this definition no `(` is open: leave the `)` out, or end the definition with `;`, and its block with `end`.\n"
+    } else if has(b"else", those) {
+        b"In this `if` no `(` is open: leave the `)` out, or end the `if` with `else` and `fi`. To keep some values alone, write `n whenever n > 3`.\n"
+    } else {
+        b"In this `if` no `(` is open: leave the `)` out, or end the `if`, which has `then`, `else` and `fi`.\n"
+    }
+}
+
 // A hint at a `fi` that lacks.
 fn last_hint(before: &[u8]) -> &'static [u8]
     ensures { result.now ≡ last_hint before.now }
@@ -424,6 +478,8 @@ fn closing_hint(around: &Around<'_>, those: &[Candidate]) -> &'static [u8]
 {
     if is_parted(around) {
         b"Before `else` and `fi` stands no `;`.\n"
+    } else if is_unopened(around.read, those) {
+        unopened_hint(those)
     } else if has(b"fi", those) {
         last_hint(around.before)
     } else if has(b"else", those) {
@@ -453,7 +509,7 @@ fn head_hint(around: &Around<'_>) -> &'static [u8]
 {
     if is_step(around.read) && around.after == b"=".as_slice() {
         b"A name is defined once, for all times: `n = 0 fby n + 1;`.\n"
-    } else if around.read == b"-".as_slice() {
+    } else if around.read == b"-".as_slice() && around.gap.is_empty() {
         b"A name has letters, digits and `_` alone.\n"
     } else if around.read == b"::".as_slice() {
         b"Kinds of values aren't declared: behind the name stands `=`, and then what it is.\n"
@@ -513,12 +569,28 @@ fn first_hint(read: &[u8]) -> &'static [u8]
     }
 }
 
+// Whether this follows the end of a definition, and begins none with its name.
+fn is_remnant(around: &Around<'_>) -> bool
+    ensures { result ≡ is_remnant (plain_around around.now) }
+{
+    around.before == b";".as_slice() && around.after != b"=".as_slice()
+}
+
+// Whether such a thing is an operator between two expressions.
+fn is_cut(around: &Around<'_>) -> bool
+    ensures { result ≡ is_cut (plain_around around.now) }
+{
+    is_remnant(around) && is_infix(around.read)
+}
+
 // A hint by where the place stands.
 #[tactic(auto, unfolding(crate::specs::Hints::place_hint))]
 fn place_hint(around: &Around<'_>, those: &[Candidate]) -> &'static [u8]
     ensures { result.now ≡ place_hint (plain_around around.now) those.now }
 {
-    if has(b"1", those) && is_infix(around.read) {
+    if is_cut(around) {
+        b"This operator stands between two expressions, as `fby` in `0 fby n`: before it stands no `;`.\n"
+    } else if has(b"1", those) && is_infix(around.read) {
         b"This operator stands between two expressions, as `fby` in `0 fby n`.\n"
     } else if around.before.is_empty() {
         first_hint(around.read)
@@ -532,19 +604,22 @@ fn place_hint(around: &Around<'_>, those: &[Candidate]) -> &'static [u8]
 }
 
 // Whether this is how other languages write the value before.
-fn is_previous(before: &[u8]) -> bool
-    ensures { result ≡ is_previous before.now }
+fn is_previous(around: &Around<'_>) -> bool
+    ensures { result ≡ is_previous (plain_around around.now) }
 {
-    before == b"prev".as_slice() || before == b"pre".as_slice()
+    around.before == b"prev".as_slice()
+        || around.before == b"pre".as_slice()
+        || (around.before == b"last".as_slice()
+            && begins_name(around.read)
+            && !is_reserved(around.read)
+            && !breaks_line(around.gap))
 }
 
 // Whether a definition was to begin with the time of a value.
 fn is_moment(around: &Around<'_>, those: &[Candidate]) -> bool
     ensures { result ≡ is_moment (plain_around around.now) those.now }
 {
-    has(b"end", those)
-        && around.after != b"=".as_slice()
-        && (around.read == b"first".as_slice() || around.read == b"next".as_slice())
+    has(b"end", those) && around.after != b"=".as_slice() && is_shift(around.read)
 }
 
 // A hint at words of other languages, where a program goes on.
@@ -555,7 +630,7 @@ fn foreign_hint(around: &Around<'_>, those: &[Candidate]) -> &'static [u8]
         b"There is no `let`: definitions stand behind `where`, as in `n where n = 1; end`.\n"
     } else if has(b"where", those) && around.before == b"head".as_slice() {
         b"The first item of a list l is `hd l`, and the others are `tl l`.\n"
-    } else if has(b"where", those) && is_previous(around.before) {
+    } else if has(b"where", those) && is_previous(around) {
         b"The value of n one time before is `0 fby n`, which is 0 at first.\n"
     } else if is_moment(around, those) {
         b"A name is defined once, for all times: `n = 0 fby n + 1;`.\n"
@@ -600,6 +675,8 @@ fn behind_hint(around: &Around<'_>, those: &[Candidate]) -> &'static [u8]
         b"Behind `is` stands `current`: a definition is written with `=`.\n"
     } else if around.before == b"return".as_slice() {
         b"There is no `return`: the right side of `=` is the value.\n"
+    } else if around.before == b"print".as_slice() {
+        b"There is no `print`: a program writes the values of its subject, with which it begins.\n"
     } else if is_product(around) {
         b"A product is written with `*`, as in `2 * n`. A number has digits alone.\n"
     } else {
@@ -628,7 +705,7 @@ fn arrow_hint(around: &Around<'_>, those: &[Candidate]) -> &'static [u8]
     if are_both(around, b"=", b">") {
         b"A definition is written with `=` alone, as in `f(x) = x + 1;`.\n"
     } else if are_both(around, b"-", b">") {
-        b"There is no `->`: a function is written `f(x) = x + 1;`, and `0 fby n` is 0 and then n.\n"
+        b"There is no `->`: a function is written `f(x) = x + 1;`, and for `0 -> pre n + 1` write `0 fby n + 1`.\n"
     } else {
         behind_hint(around, those)
     }
@@ -680,6 +757,28 @@ fn chains(read: &[u8], those: &[Candidate]) -> bool
     is_comparison(read) && has(b"+", those)
 }
 
+// Whether this is `then` or `else` behind an expression, in a definition, a parenthesis or a whole program that has no `if` open.
+fn is_astray(read: &[u8], those: &[Candidate]) -> bool
+    ensures { result ≡ is_astray read.now those.now }
+{
+    (read == b"then".as_slice() || read == b"else".as_slice())
+        && has(b"+", those)
+        && !(has(b"then", those) || has(b"else", those) || has(b"fi", those))
+}
+
+// A hint at such a word.
+fn astray_hint(those: &[Candidate]) -> &'static [u8]
+    ensures { result.now ≡ astray_hint those.now }
+{
+    if has(b")", those) {
+        b"A `(` stands open before this: its `)` is missing.\n"
+    } else if has(b";", those) {
+        b"In this definition no `if` is open: a choice is written `if .. then .. else .. fi`. What follows a first value stands behind `fby`, as in `0 fby n`.\n"
+    } else {
+        b"Before this no `if` is open: a choice is written `if .. then .. else .. fi`. What follows a first value stands behind `fby`, as in `0 fby n`.\n"
+    }
+}
+
 // A hint by the token, where it is a word.
 fn word_hint(around: &Around<'_>, those: &[Candidate]) -> &'static [u8]
     ensures { result.now ≡ word_hint (plain_around around.now) those.now }
@@ -692,6 +791,8 @@ fn word_hint(around: &Around<'_>, those: &[Candidate]) -> &'static [u8]
         b"Write `else if .. then .. else .. fi fi`: each `if` ends with a `fi` of its own.\n"
     } else if is_remark(around, those) {
         b"A comment begins with `//`.\n"
+    } else if is_astray(around.read, those) {
+        astray_hint(those)
     } else {
         pair_hint(around, those)
     }
@@ -727,7 +828,7 @@ fn frozen_hint(read: &[u8]) -> &'static [u8]
     if read == b"current".as_slice() {
         b"Write `k is current n;`, without `=`.\n"
     } else {
-        b"`k is current n;` defines a plain name, behind `where`.\n"
+        b"To compare, write `eq`. `k is current n;` defines a plain name, behind `where`.\n"
     }
 }
 
