@@ -26,17 +26,18 @@ byte_advice b =
     else if b == 33 then codes "Write `ne` for what differs, and `not` before a truth.\n"
     else if b == 38 then codes "Write `and`, and to join strings `^`.\n"
     else if b == 124 then codes "Write `or`. Cases are told apart by `if .. then .. else .. fi`.\n"
-    else if b == 37 then codes "What a division leaves over is `mod`.\n"
+    else if b == 37 then codes "What a division leaves over is `mod`. A comment begins with `//`.\n"
     else if b == 91 then list_advice
     else if b == 93 then codes "Before this no list is open: a `(` ends with `)`, and a list of constants with `%]`.\n"
     else if b == 123 || b == 125 then codes "Parentheses group, and definitions stand between `where` and `end`.\n"
     else if b == 95 then codes "A name begins with a letter, and a number has digits alone.\n"
-    else if b == 58 then codes "A definition is written with `=`, as `n = 0 fby n + 1;` or `f(x) = x + 1;`, and `::` puts a value in front of a list. Behind a test stands `then`.\n"
+    else if b == 58 then codes "A definition is written with `=` and ends with `;`, as `n = 0 fby n + 1;` or `f(x) = x + 1;`, and `::` puts a value in front of a list. Behind a test stands `then`.\n"
     else if b == 63 then codes "A choice is written `if .. then .. else .. fi`.\n"
     else if b == 35 then codes "A comment begins with `//`.\n"
     else if b == 64 then codes "The value at another time is `X attime T`.\n"
     else if b == 92 then codes "A function is written with a name, as `f(x) = x + 1;`.\n"
     else if b == 36 then codes "A name begins with a letter, and has letters, digits and `_` alone.\n"
+    else if b == 126 then codes "Write `not` before a truth.\n"
     else if b == 0 then codes "A byte 0 stands here: the file may be UTF-16, or no text. Save it as ASCII or UTF-8.\n"
     else if nat_lt b 32 || nat_lt 126 b then codes "Only in comments may other bytes stand than printable ASCII, tabs and line ends.\n"
     else codes "No token begins with this byte.\n"
@@ -75,6 +76,14 @@ is_numbered line = nat_lt 0 (length line) && prefix_len is_ascii_digit line == l
 abbrev pub is_loop : (line : List ℕ) → Bool
 is_loop line = begins line (codes "for ") || begins line (codes "while ")
 
+-- how other languages begin a program or a function
+abbrev pub is_header : (line : List ℕ) → Bool
+is_header line = begins line (codes "node ") || begins line (codes "function ") || begins line (codes "def ")
+
+-- a `[`, digits and two points, as in `[0..]`
+abbrev pub is_range : (rest : List ℕ) → Bool
+is_range rest = begins rest (codes "[") && begins (drop (prefix_len is_ascii_digit (drop 1 rest)) (drop 1 rest)) (codes "..")
+
 -- of a `.`, by what stands before it
 abbrev pub point_advice : (before rest : List ℕ) → List ℕ
 point_advice before rest =
@@ -88,7 +97,15 @@ abbrev pub colon_advice : (before : List ℕ) → List ℕ
 colon_advice before =
     if same_bytes (last_name before) (codes "where") then codes "No `:` stands behind `where`: the definitions come there, and then `end`.\n"
     else if is_loop (last_line before) then codes "There are no loops: `n = 0 fby n + 1;` defines the values of all times, and --count N says how many are written.\n"
+    else if is_header (last_line before) then codes "A program begins with an expression, and its definitions stand behind `where`: `n where n = 0 fby n + 1; f(x) = x + 1; end`.\n"
     else ascii_advice before 58
+
+-- of a byte of ASCII, by what stands before it and what begins with it
+abbrev pub bracket_advice : (before rest : List ℕ) → List ℕ
+bracket_advice before rest =
+    if is_range rest then codes "There are no ranges: `n = 0 fby n + 1;` is 0, 1, 2, .., and --count N says how many are written.\n"
+    else if begins rest (codes "{-") then codes "A comment begins with `//`.\n"
+    else ascii_advice before (slice_index rest 0)
 
 -- of bytes with which no token begins, by what stands before them
 abbrev pub bad_advice : (before rest : List ℕ) → List ℕ
@@ -97,7 +114,7 @@ bad_advice before rest =
     else if begins rest (codes "/=") then differs_advice
     else if slice_index rest 0 == 46 then point_advice before rest
     else if slice_index rest 0 == 58 then colon_advice before
-    else ascii_advice before (slice_index rest 0)
+    else bracket_advice before rest
 
 -- of a string or a list that has no end, or is no value, which begins so
 abbrev pub open_advice : (rest : List ℕ) → List ℕ

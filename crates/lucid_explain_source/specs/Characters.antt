@@ -30,6 +30,24 @@ greater_advice = codes "Write `>=`.\n"
 abbrev pub differs_advice : List ℕ
 differs_advice = codes "Write `ne`.\n"
 
+abbrev pub power_advice : List ℕ
+power_advice = codes "A power is written with `**`, as in `n ** 2`.\n"
+
+abbrev pub unseen_advice : List ℕ
+unseen_advice = codes "A character that isn't seen stands here: leave it out.\n"
+
+abbrev pub broad_advice : List ℕ
+broad_advice = codes "A wide character stands here: write the plain one.\n"
+
+abbrev pub and_advice : List ℕ
+and_advice = codes "Write `and`.\n"
+
+abbrev pub or_advice : List ℕ
+or_advice = codes "Write `or`.\n"
+
+abbrev pub not_advice : List ℕ
+not_advice = codes "Write `not` before a truth.\n"
+
 abbrev pub product_advice : List ℕ
 product_advice = codes "A product is written with `*`.\n"
 
@@ -62,6 +80,15 @@ characters =
     ∷ (195 ∷ 151 ∷ [], product_advice)
     ∷ (194 ∷ 183 ∷ [], product_advice)
     ∷ (195 ∷ 183 ∷ [], division_advice)
+    ∷ (194 ∷ 178 ∷ [], power_advice)
+    ∷ (194 ∷ 179 ∷ [], power_advice)
+    ∷ (194 ∷ 180 ∷ [], quote_advice)
+    ∷ (226 ∷ 136 ∷ 167 ∷ [], and_advice)
+    ∷ (226 ∷ 136 ∷ 168 ∷ [], or_advice)
+    ∷ (194 ∷ 172 ∷ [], not_advice)
+    ∷ (226 ∷ 128 ∷ 139 ∷ [], unseen_advice)
+    ∷ (194 ∷ 173 ∷ [], unseen_advice)
+    ∷ (239 ∷ 188 ∷ [], broad_advice)
     ∷ []
 
 abbrev pub bytes_and_advice : Bor (List ℕ) × Bor (List ℕ) → List ℕ × List ℕ

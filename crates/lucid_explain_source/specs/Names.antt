@@ -11,6 +11,7 @@ use Rattle.lucid_scope.specs.declared.refusal.ScopeRefusal.{ScopeRefusal}
 use Rattle.lucid_scope.specs.declared.refusal.ScopeRefusal.TheVariants as refusal
 use Rattle.lucid_explain_source.specs.declared.names.Wanted.{Wanted}
 use Rattle.lucid_explain_source.specs.declared.names.Wanted.TheVariants as wanted
+use Rattle.lucid_explain_places.specs.Hints.{is_capital}
 use Rattle.lucid_explain_places.specs.Shown.{place_text}
 use Rattle.lucid_explain_source.specs.Definitions.{definition_text}
 use Rattle.lucid_explain_source.specs.Scopes.{is_headed, in_scope}
@@ -84,6 +85,15 @@ no_function_advice = codes "No function of this name is in scope here: define it
 abbrev pub printing_advice : List ℕ
 printing_advice = codes "No function of this name is in scope here. None is needed to print: a program writes the values of its subject, with which it begins.\n"
 
+abbrev pub capital_advice : List ℕ
+capital_advice = codes "Reserved words are spelled in small letters: `if n > 3 then 1 else 0 fi`, `n mod 2`, `next n`, `nth(l, 2)`.\n"
+
+abbrev pub range_advice : List ℕ
+range_advice = codes "No function of this name is in scope here. 0, 1, 2, .. is n, with `n = 0 fby n + 1;`, and --count N says how many are written.\n"
+
+abbrev pub text_advice : List ℕ
+text_advice = codes "No function of this name is in scope here. The string of an integer or a word x is `mkstring x`.\n"
+
 abbrev pub length_advice : List ℕ
 length_advice = codes "No function of this name is in scope here. How many items a list l has is `length l`.\n"
 
@@ -120,13 +130,28 @@ is_printing name = same_bytes name (codes "print") || same_bytes name (codes "pr
 abbrev pub is_length : (name : List ℕ) → Bool
 is_length name = same_bytes name (codes "len") || same_bytes name (codes "size")
 
+-- of the name of a function that isn't in scope, which makes a value in another language
+unfoldable pub made_advice : (name : List ℕ) → List ℕ
+made_advice name =
+    if same_bytes name (codes "sum") then sum_advice
+    else if same_bytes name (codes "range") then range_advice
+    else if same_bytes name (codes "str") then text_advice
+    else no_function_advice
+
+-- of the name of such a function, which another language may have
+unfoldable pub foreign_advice : (name : List ℕ) → List ℕ
+foreign_advice name =
+    if is_printing name then printing_advice
+    else if is_length name then length_advice
+    else made_advice name
+
+-- of the name of such a function, which may be a reserved word but for capital letters
+abbrev pub called_advice : (name : List ℕ) → List ℕ
+called_advice name = if is_capital name then capital_advice else foreign_advice name
+
 -- what is said of a call of a function that isn't in scope
 abbrev pub no_function_text : (source : List ℕ) → List Def → (at : ℕ) → List ℕ
-no_function_text source defs at =
-    if is_printing (name_at source at) then advised_text source defs at printing_advice wanted.Functions 6
-    else if is_length (name_at source at) then advised_text source defs at length_advice wanted.Functions 6
-    else if same_bytes (name_at source at) (codes "sum") then advised_text source defs at sum_advice wanted.Functions 6
-    else advised_text source defs at no_function_advice wanted.Functions 6
+no_function_text source defs at = advised_text source defs at (called_advice (name_at source at)) wanted.Functions 6
 
 -- What is said of a call of what is no function: the definition of the name, but where the name may be a parameter.
 abbrev pub not_function_text : (source : List ℕ) → List Def → (at : ℕ) → List ℕ

@@ -4,7 +4,7 @@ ghost use Rattle.std.specs.Char.{is_ascii_digit};
 ghost use Rattle.std.specs.List.{prefix_len, suffix_len};
 ghost use Rattle.lucid_value.specs.Names.{is_name_byte};
 ghost use Rattle.lucid_scan.specs.Refusals.{Refuses, most_source_bytes};
-ghost use Rattle.lucid_explain_source.specs.Advice.{byte_advice, ends_name, behind_advice, ascii_advice, is_real, last_name, last_line, is_numbered, is_loop, point_advice, colon_advice, bad_advice, open_advice, big_advice, long_advice, scan_text};
+ghost use Rattle.lucid_explain_source.specs.Advice.{byte_advice, ends_name, behind_advice, ascii_advice, is_real, last_name, last_line, is_numbered, is_loop, is_header, is_range, point_advice, colon_advice, bracket_advice, bad_advice, open_advice, big_advice, long_advice, scan_text};
 ghost use Rattle.lucid_explain_places.specs.Shown.{place_text};
 
 use crate::characters::{DIFFERS, begins, character_advice};
@@ -34,19 +34,20 @@ fn byte_advice(byte: u8) -> &'static [u8]
         b'!' => b"Write `ne` for what differs, and `not` before a truth.\n",
         b'&' => b"Write `and`, and to join strings `^`.\n",
         b'|' => b"Write `or`. Cases are told apart by `if .. then .. else .. fi`.\n",
-        b'%' => b"What a division leaves over is `mod`.\n",
+        b'%' => b"What a division leaves over is `mod`. A comment begins with `//`.\n",
         b'[' => LIST,
         b']' =>
             b"Before this no list is open: a `(` ends with `)`, and a list of constants with `%]`.\n",
         b'{' | b'}' => b"Parentheses group, and definitions stand between `where` and `end`.\n",
         b'_' => b"A name begins with a letter, and a number has digits alone.\n",
         b':' =>
-            b"A definition is written with `=`, as `n = 0 fby n + 1;` or `f(x) = x + 1;`, and `::` puts a value in front of a list. Behind a test stands `then`.\n",
+            b"A definition is written with `=` and ends with `;`, as `n = 0 fby n + 1;` or `f(x) = x + 1;`, and `::` puts a value in front of a list. Behind a test stands `then`.\n",
         b'?' => b"A choice is written `if .. then .. else .. fi`.\n",
         b'#' => b"A comment begins with `//`.\n",
         b'@' => b"The value at another time is `X attime T`.\n",
         b'\\' => b"A function is written with a name, as `f(x) = x + 1;`.\n",
         b'$' => b"A name begins with a letter, and has letters, digits and `_` alone.\n",
+        b'~' => b"Write `not` before a truth.\n",
         0 =>
             b"A byte 0 stands here: the file may be UTF-16, or no text. Save it as ASCII or UTF-8.\n",
         1..=31 | 127..=255 =>
@@ -120,7 +121,8 @@ fn last_line(before: &[u8]) -> &[u8]
 
 // How many digits stand at the beginning.
 fn len_of_digits(line: &[u8]) -> usize
-    ensures { result ≡ prefix_len is_ascii_digit line.now }
+    ensures value { result ≡ prefix_len is_ascii_digit line.now }
+    ensures within { result ≤ length line.now }
 {
     line.iter().take_while(|byte| byte.is_ascii_digit()).count()
 }
@@ -137,6 +139,22 @@ fn is_loop(line: &[u8]) -> bool
     ensures { result ≡ is_loop line.now }
 {
     begins(line, b"for ") || begins(line, b"while ")
+}
+
+// Whether other languages begin a program or a function so.
+fn is_header(line: &[u8]) -> bool
+    ensures { result ≡ is_header line.now }
+{
+    begins(line, b"node ") || begins(line, b"function ") || begins(line, b"def ")
+}
+
+// Whether this is a `[`, digits and two points, as in `[0..]`.
+fn is_range(rest: &[u8]) -> bool
+    requires { 0 < length rest.now }
+    ensures { result ≡ is_range rest.now }
+{
+    let inner = &rest[1..];
+    begins(rest, b"[") && begins(&inner[len_of_digits(inner)..], b"..")
 }
 
 // What is said of a `.`, by what stands before it.
@@ -162,8 +180,24 @@ fn colon_advice(before: &[u8]) -> &'static [u8]
         b"No `:` stands behind `where`: the definitions come there, and then `end`.\n"
     } else if is_loop(last_line(before)) {
         b"There are no loops: `n = 0 fby n + 1;` defines the values of all times, and --count N says how many are written.\n"
+    } else if is_header(last_line(before)) {
+        b"A program begins with an expression, and its definitions stand behind `where`: `n where n = 0 fby n + 1; f(x) = x + 1; end`.\n"
     } else {
         ascii_advice(before, b':')
+    }
+}
+
+// What is said of a byte of ASCII, by what stands before it and what begins with it.
+fn bracket_advice(before: &[u8], rest: &[u8]) -> &'static [u8]
+    requires { 0 < length rest.now }
+    ensures { result.now ≡ bracket_advice before.now rest.now }
+{
+    if is_range(rest) {
+        b"There are no ranges: `n = 0 fby n + 1;` is 0, 1, 2, .., and --count N says how many are written.\n"
+    } else if begins(rest, b"{-") {
+        b"A comment begins with `//`.\n"
+    } else {
+        ascii_advice(before, rest[0])
     }
 }
 
@@ -182,7 +216,7 @@ fn bad_advice(before: &[u8], rest: &[u8]) -> &'static [u8]
     } else if byte == b':' {
         colon_advice(before)
     } else {
-        ascii_advice(before, byte)
+        bracket_advice(before, rest)
     }
 }
 

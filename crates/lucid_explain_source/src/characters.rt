@@ -19,9 +19,13 @@ const DASH: &[u8] = b"Here stands a dash: minus is the plain `-`.\n";
 
 pub(crate) const DIFFERS: &[u8] = b"Write `ne`.\n";
 
+const POWER: &[u8] = b"A power is written with `**`, as in `n ** 2`.\n";
+
+const UNSEEN: &[u8] = b"A character that isn't seen stands here: leave it out.\n";
+
 const PRODUCT: &[u8] = b"A product is written with `*`.\n";
 
-const CHARACTERS: [Character; 23] = [
+const CHARACTERS: [Character; 32] = [
     (
         b"\xef\xbb\xbf",
         b"A byte order mark stands here: save the file without it.\n",
@@ -50,6 +54,18 @@ const CHARACTERS: [Character; 23] = [
     (
         b"\xc3\xb7",
         b"Whole division is `div`, and what it leaves over is `mod`.\n",
+    ),
+    (b"\xc2\xb2", POWER),
+    (b"\xc2\xb3", POWER),
+    (b"\xc2\xb4", QUOTE),
+    (b"\xe2\x88\xa7", b"Write `and`.\n"),
+    (b"\xe2\x88\xa8", b"Write `or`.\n"),
+    (b"\xc2\xac", b"Write `not` before a truth.\n"),
+    (b"\xe2\x80\x8b", UNSEEN),
+    (b"\xc2\xad", UNSEEN),
+    (
+        b"\xef\xbc",
+        b"A wide character stands here: write the plain one.\n",
     ),
 ];
 

@@ -6,12 +6,12 @@ ghost use Rattle.lucid_value.specs.Plain.{same_bytes};
 ghost use Rattle.lucid_value.specs.Names.{is_name_byte};
 ghost use Rattle.lucid_tree.specs.declared.tree.Def.{Def as PlainDef};
 ghost use Rattle.lucid_scan.specs.Refusals.{most_source_bytes};
-ghost use Rattle.lucid_explain_source.specs.Names.{name_front, name_at, is_function, is_plain, fits, told_text, advised_text, heads, is_before, headed, has_parameter, is_parameter, twice_advice, parameter_advice, found_text, again_text, twice_text, is_printing, is_length, no_function_text, not_function_text, refusal_at, said_text, names_text};
+ghost use Rattle.lucid_explain_source.specs.Names.{name_front, name_at, is_function, is_plain, fits, told_text, advised_text, heads, is_before, headed, has_parameter, is_parameter, twice_advice, parameter_advice, found_text, again_text, twice_text, is_printing, is_length, made_advice, foreign_advice, called_advice, no_function_text, not_function_text, refusal_at, said_text, names_text};
 ghost use Rattle.lucid_explain_source.specs.Scopes.{lent};
 
 use crate::definitions::put_definition;
 use crate::scopes::{find_in_scope, is_headed};
-use lucid_explain_places::put_place;
+use lucid_explain_places::{is_capital, put_place};
 use lucid_scope::ScopeRefusal;
 use lucid_tree::{Def, DefKind, Tree};
 use lucid_value::{Name, is_name_byte};
@@ -45,30 +45,6 @@ pub(crate) struct Advice {
     pub(crate) wanted: Wanted,
     pub(crate) most: usize,
 }
-
-const NO_FUNCTION: Advice = Advice {
-    says: b"No function of this name is in scope here: define it, or mend its spelling.\n",
-    wanted: Wanted::Functions,
-    most: MOST_TOLD,
-};
-
-const PRINTING: Advice = Advice {
-    says: b"No function of this name is in scope here. None is needed to print: a program writes the values of its subject, with which it begins.\n",
-    wanted: Wanted::Functions,
-    most: MOST_TOLD,
-};
-
-const LENGTH: Advice = Advice {
-    says: b"No function of this name is in scope here. How many items a list l has is `length l`.\n",
-    wanted: Wanted::Functions,
-    most: MOST_TOLD,
-};
-
-const SUM: Advice = Advice {
-    says: b"No function of this name is in scope here. The sum of x so far is s, with `s = x fby s + next x;`.\n",
-    wanted: Wanted::Functions,
-    most: MOST_TOLD,
-};
 
 const NO_PARAMETERS: Advice = Advice {
     says: NOT_FUNCTION,
@@ -375,8 +351,51 @@ fn is_length(name: &[u8]) -> bool
     name == b"len".as_slice() || name == b"size".as_slice()
 }
 
+// What is said of the name of a function that isn't in scope, which makes a value in another language.
+#[tactic(auto, unfolding(crate::specs::Names::made_advice))]
+fn made_advice(name: &[u8]) -> &'static [u8]
+    ensures { result.now ≡ made_advice name.now }
+{
+    if name == b"sum".as_slice() {
+        b"No function of this name is in scope here. The sum of x so far is s, with `s = x fby s + next x;`.\n"
+    } else if name == b"range".as_slice() {
+        b"No function of this name is in scope here. 0, 1, 2, .. is n, with `n = 0 fby n + 1;`, and --count N says how many are written.\n"
+    } else if name == b"str".as_slice() {
+        b"No function of this name is in scope here. The string of an integer or a word x is `mkstring x`.\n"
+    } else {
+        b"No function of this name is in scope here: define it, or mend its spelling.\n"
+    }
+}
+
+// What is said of the name of such a function, which another language may have.
+#[tactic(auto, unfolding(crate::specs::Names::foreign_advice))]
+fn foreign_advice(name: &[u8]) -> &'static [u8]
+    ensures { result.now ≡ foreign_advice name.now }
+{
+    if is_printing(name) {
+        b"No function of this name is in scope here. None is needed to print: a program writes the values of its subject, with which it begins.\n"
+    } else if is_length(name) {
+        b"No function of this name is in scope here. How many items a list l has is `length l`.\n"
+    } else {
+        made_advice(name)
+    }
+}
+
+// What is said of the name of such a function, which may be a reserved word but for capital letters.
+fn called_advice(alloc: Global, name: &[u8]) -> Result<&'static [u8], AllocError>
+    ensures { IfOk result (λ text. text.now ≡ called_advice name.now) }
+{
+    if is_capital(alloc, name)? {
+        return Ok(
+            b"Reserved words are spelled in small letters: `if n > 3 then 1 else 0 fi`, `n mod 2`, `next n`, `nth(l, 2)`.\n",
+        );
+    }
+    Ok(foreign_advice(name))
+}
+
 // Appends what is said of a call of a function that isn't in scope.
 fn put_no_function(
+    alloc: Global,
     text: &mut Vec<u8>,
     source: &[u8],
     defs: &[&Def],
@@ -385,15 +404,12 @@ fn put_no_function(
     requires { length source.now ≤ most_source_bytes }
     ensures { OnOk result (text.new.items ≡ text.old.items ++ no_function_text source.now (lent defs.now) at) }
 {
-    if is_printing(name_at(source, at)) {
-        put_advised(text, source, defs, at, &PRINTING)
-    } else if is_length(name_at(source, at)) {
-        put_advised(text, source, defs, at, &LENGTH)
-    } else if name_at(source, at) == b"sum".as_slice() {
-        put_advised(text, source, defs, at, &SUM)
-    } else {
-        put_advised(text, source, defs, at, &NO_FUNCTION)
-    }
+    let advice = Advice {
+        says: called_advice(alloc, name_at(source, at))?,
+        wanted: Wanted::Functions,
+        most: MOST_TOLD,
+    };
+    put_advised(text, source, defs, at, &advice)
 }
 
 // Appends what is said of a call of what is no function.
@@ -426,7 +442,7 @@ fn put_said(
 {
     match refusal {
         ScopeRefusal::Twice { at } => put_twice(alloc, text, source, defs, *at),
-        ScopeRefusal::NoFunction { at } => put_no_function(text, source, defs, *at),
+        ScopeRefusal::NoFunction { at } => put_no_function(alloc, text, source, defs, *at),
         ScopeRefusal::NotFunction { at } => put_not_function(text, source, defs, *at),
         ScopeRefusal::IsFunction { at } => put_advised(text, source, defs, *at, &IS_FUNCTION),
         ScopeRefusal::Arity { at, .. } => put_advised(text, source, defs, *at, &ARITY),
