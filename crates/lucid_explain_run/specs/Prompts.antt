@@ -3,6 +3,7 @@ use Rattle.std.specs.Prelude.{◌≡◌, List, ℕ, ◌+◌, [], ◌∷◌, ◌+
 use Rattle.lucid_scope.specs.declared.scoped.Scoped.{Scoped}
 use Rattle.lucid_scope.specs.Scoped.{scoped_tree, scoped_inputs}
 use Rattle.lucid_explain_run.specs.declared.inputs.Lacking.{Lacking}
+use Rattle.lucid_value.specs.Plain.{same_bytes}
 use Rattle.lucid_explain_source.specs.Accepted.{IsProgram, IsTurnedDown}
 use Rattle.lucid_explain_source.specs.Definitions.{name_text}
 use Rattle.lucid_explain_source.specs.Characters.{begins}
@@ -16,10 +17,16 @@ begins_comment behind = begins behind (codes " //") || begins behind (codes "//"
 abbrev pub is_divided : (rest : List ℕ) → Bool
 is_divided rest = begins_comment (drop (length (name_front rest)) rest)
 
+-- a letter that looks like a digit
+abbrev pub looks_like_digit : (name : List ℕ) → Bool
+looks_like_digit name = same_bytes name (codes "O") || same_bytes name (codes "l")
+
 -- what else may be meant by a name with which the rest of a source begins
 abbrev pub other_text : (rest : List ℕ) → List ℕ
 other_text rest =
     if is_divided rest then codes "Behind it begins a comment, with `//`: whole division is `div`.\n"
+    else if looks_like_digit (name_front rest) then codes "If no input is meant: define the name. If 0 or 1 is meant: this is a letter.\n"
+    else if same_bytes (name_front rest) (codes "nil") then codes "The empty list is written `[]`.\n"
     else codes "If no input is meant: define the name, or write a word between two \", as in \"red\".\n"
 
 -- that an input is read, and what may be meant by its name

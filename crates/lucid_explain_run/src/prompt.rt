@@ -3,7 +3,7 @@ ghost use Rattle.std.specs.Prelude.{◌≡◌, ◌≤◌, ◌++◌, length, min,
 ghost use Rattle.lucid_scan.specs.Refusals.{most_source_bytes};
 ghost use Rattle.lucid_scope.specs.Scoped.{scoped_tree, scoped_inputs};
 ghost use Rattle.lucid_explain_source.specs.Accepted.{IsProgram};
-ghost use Rattle.lucid_explain_run.specs.Prompts.{begins_comment, is_divided, other_text, prompt_text, asked_text, read_text, only_text, are_others, TellsPrompt};
+ghost use Rattle.lucid_explain_run.specs.Prompts.{begins_comment, is_divided, looks_like_digit, other_text, prompt_text, asked_text, read_text, only_text, are_others, TellsPrompt};
 
 use crate::inputs::{Lacking, Sought, all_lacking, put_meant};
 use lucid_explain_source::{begins, name_front, put_name, scoped_of};
@@ -25,12 +25,23 @@ fn is_divided(rest: &[u8]) -> bool
     begins_comment(&rest[name_front(rest).len()..])
 }
 
+// Whether this is a letter that looks like a digit.
+fn looks_like_digit(name: &[u8]) -> bool
+    ensures { result ≡ looks_like_digit name.now }
+{
+    name == b"O".as_slice() || name == b"l".as_slice()
+}
+
 // What else may be meant by a name with which the rest of a source begins.
 fn other_text(rest: &[u8]) -> &'static [u8]
     ensures { result.now ≡ other_text rest.now }
 {
     if is_divided(rest) {
         b"Behind it begins a comment, with `//`: whole division is `div`.\n"
+    } else if looks_like_digit(name_front(rest)) {
+        b"If no input is meant: define the name. If 0 or 1 is meant: this is a letter.\n"
+    } else if name_front(rest) == b"nil".as_slice() {
+        b"The empty list is written `[]`.\n"
     } else {
         b"If no input is meant: define the name, or write a word between two \", as in \"red\".\n"
     }
