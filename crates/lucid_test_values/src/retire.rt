@@ -1,4 +1,4 @@
-use crate::told::first_false;
+use crate::told::{first_false, none_wrong};
 use lucid_retire::*;
 use lucid_store::{Key, Warehouse};
 use lucid_tags::Tags;
@@ -73,6 +73,5 @@ fn each_policy_has_its_turns(rt: HostRuntime) -> Result<(), Fail> {
         holds(alloc, Policy::Ages(Ages::make(2, 1)), 3),
         holds(alloc, Policy::Last(Last::make(alloc, 3)?), 3),
     ];
-    assert_eq!(rt; first_false(&facts), None);
-    Ok(())
+    none_wrong(first_false(&facts), "policies")
 }

@@ -1,6 +1,6 @@
 ghost use Rattle.std.specs.Prelude.{◌<◌, length};
 
-use crate::told::first_false;
+use crate::told::{first_false, none_wrong};
 use lucid_schedule::*;
 use std::alloc::{AllocError, Global};
 use std::test::Fail;
@@ -44,6 +44,5 @@ fn picks(rt: HostRuntime) -> Result<(), Fail> {
         picked_by_listed(rt.alloc())? == 1,
         wrong_of_listed(rt.alloc())?.is_none(),
     ];
-    assert_eq!(rt; first_false(&facts), None);
-    Ok(())
+    none_wrong(first_false(&facts), "picks")
 }

@@ -1,6 +1,7 @@
-use crate::told::first_false;
+use crate::told::{first_false, none_wrong};
 use lucid_search::*;
 use lucid_tags::{Tag, Tags};
+use std::test::Fail;
 
 const MANY: u64 = 100_000;
 
@@ -49,9 +50,9 @@ fn wrong_out_of_order(positions: &mut Positions, root: Tag) -> Option<u64> {
     for (key, number) in [(6, 60), (2, 20), (9, 90), (4, 40), (2, 21), (0, 1)] {
         positions.note(3, root, key, number);
     }
-    for (key, best) in BEST {
-        if positions.best(3, root, key) != best {
-            return Some(key);
+    for (key, best) in &BEST {
+        if positions.best(3, root, *key) != *best {
+            return Some(*key);
         }
     }
     None
@@ -68,7 +69,7 @@ fn wrong_in_rising_order(positions: &mut Positions, root: Tag) -> Option<u64> {
 }
 
 #[test]
-fn noted_positions(rt: HostRuntime) {
+fn noted_positions(rt: HostRuntime) -> Result<(), Fail> {
     let alloc = rt.alloc();
     let root = Tags::make(alloc).root();
     let facts = [
@@ -77,5 +78,5 @@ fn noted_positions(rt: HostRuntime) {
         wrong_out_of_order(&mut Positions::make(alloc), root).is_none(),
         wrong_in_rising_order(&mut Positions::make(alloc), root).is_none(),
     ];
-    assert_eq!(rt; first_false(&facts), None);
+    none_wrong(first_false(&facts), "positions")
 }

@@ -1,10 +1,11 @@
 //! Calls of a warehouse, one after another, with what each answers; and a million keys.
-use crate::told::first_false;
+use crate::told::{first_false, none_wrong};
 use lucid_store::*;
 use lucid_tags::{KeyHasher, Tag, Tags};
 use lucid_value::Value;
 use std::alloc::Global;
 use std::hash::{BuildHasher, BuildHasherDefault};
+use std::test::Fail;
 
 const MANY: u64 = 1_000_000;
 
@@ -149,10 +150,10 @@ fn fills_again(warehouse: &mut Warehouse, tag: Tag) -> Option<usize> {
 
 // To be tried with each allocation failing in turn: after the first that is refused none is asked for, until a key is removed.
 #[test]
-fn no_memory_is_asked_for_after_a_refusal(rt: HostRuntime) {
+fn no_memory_is_asked_for_after_a_refusal(rt: HostRuntime) -> Result<(), Fail> {
     let root = Tags::make(rt.alloc()).root();
     let wrong = fills_again(&mut Warehouse::make(rt.alloc()), root);
-    assert_eq!(rt; wrong, None);
+    none_wrong(wrong, "filled again")
 }
 
 // The first of the times below a count whose value isn't held.
@@ -215,8 +216,7 @@ fn first_apart(root: Tag) -> Option<u64> {
 #[test]
 fn steps_groups_and_a_million_keys(rt: HostRuntime) {
     let root = Tags::make(rt.alloc()).root();
-    assert_eq!(rt; first_apart(root), None);
     let million = of_a_million(&mut Warehouse::make(rt.alloc()), root);
-    assert_eq!(rt; million, (None, None, MANY));
-    assert_eq!(rt; wrong_steps(rt.alloc()), [None, None, None]);
+    let wrong = (first_apart(root), million, wrong_steps(rt.alloc()));
+    assert_eq!(rt; wrong, (None, (None, None, MANY), [None, None, None]));
 }

@@ -1,10 +1,11 @@
 ghost use Rattle.std.specs.Prelude.{◌≡◌, ℕ, ◌<◌, IfSome, IsTrue, Some};
 ghost use Rattle.lucid_tasks.specs.Rows.{row_at, state_of, is_ready, IsRow, HaveThree, Idle};
 
-use crate::told::first_false;
+use crate::told::{first_false, none_wrong};
 use lucid_tags::{Tag, Tags};
 use lucid_tasks::*;
 use lucid_value::Value;
+use std::test::Fail;
 
 const MANY: u64 = 1_000_000;
 
@@ -168,7 +169,7 @@ fn wrong_of_a_cursor(tasks: &mut Tasks, tag: Tag) -> Option<Option<usize>> {
 }
 
 #[test]
-fn rows_of_tasks(rt: HostRuntime) {
+fn rows_of_tasks(rt: HostRuntime) -> Result<(), Fail> {
     let alloc = rt.alloc();
     let tag = Tags::make(alloc).root();
     let facts = [
@@ -178,7 +179,7 @@ fn rows_of_tasks(rt: HostRuntime) {
         wrong_of_a_key(&mut Tasks::make(alloc), tag) == Some(None),
         wrong_of_a_cursor(&mut Tasks::make(alloc), tag) == Some(None),
     ];
-    assert_eq!(rt; first_false(&facts), None);
+    none_wrong(first_false(&facts), "tasks")
 }
 
 // Asks for a task at each time from 1 on, each below the one before: the first time that is refused.
