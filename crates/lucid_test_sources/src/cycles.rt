@@ -3,7 +3,7 @@
 ghost use Rattle.lucid_scope.specs.Scoped.{scoped_tree};
 ghost use Rattle.lucid_cycles.specs.Judged.{IsJudged};
 
-use crate::told::must;
+use crate::told::{must, none_wrong};
 use crate::tree::tree_of;
 use lucid_cycles::{Judgment, enough, judge};
 use lucid_lists::Numbers;
@@ -309,6 +309,5 @@ fn wrong_of_program(alloc: Global) -> Result<Option<usize>, Fail> {
 
 #[test]
 fn a_depth_is_checked(rt: HostRuntime) -> Result<(), Fail> {
-    assert_eq!(rt; wrong_of_program(rt.alloc())?, None);
-    Ok(())
+    none_wrong(wrong_of_program(rt.alloc())?, "depths")
 }

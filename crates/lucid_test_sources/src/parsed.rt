@@ -42,7 +42,7 @@ fn repeated(alloc: Global, piece: &[u8], times: usize, end: &[u8]) -> Result<Vec
 }
 
 /// Sources that spell a tree, with the place of the operator that binds loosest.
-const ROOTS: [(&[u8], Answer); 22] = [
+static ROOTS: [(&[u8], Answer); 22] = [
     (b"x where x = 1; x = 2; end", Root(2)),
     (b"a fby b where end", Root(8)),
     (b"a where end where end", Root(12)),
@@ -68,7 +68,7 @@ const ROOTS: [(&[u8], Answer); 22] = [
 ];
 
 /// Sources that spell none, with the place of the first token that no program goes on with.
-const FAULTS: [(&[u8], Answer); 18] = [
+static FAULTS: [(&[u8], Answer); 18] = [
     (b"", Syntax(0)),
     (b"// nothing", Syntax(10)),
     (b"x where x = ; end", Syntax(12)),
@@ -100,7 +100,7 @@ fn wrong_source<'a>(alloc: Global, rows: &[(&'a [u8], Answer)]) -> Option<&'a [u
 }
 
 /// Pieces that are repeated, how often, what comes behind them, and what becomes of that.
-const REPEATED: [(&[u8], usize, &[u8], Answer); 7] = [
+static REPEATED: [(&[u8], usize, &[u8], Answer); 7] = [
     (b"not ", 399, b"true", Root(0)),
     (b"not ", 400, b"true", TooNested(1600)),
     (b"1 fby ", 400, b"1", TooNested(2394)),

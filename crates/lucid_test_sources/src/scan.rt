@@ -1,5 +1,5 @@
 //! Sources with their tokens or their refusals, up to the limits.
-use crate::told::must;
+use crate::told::{must, none_wrong};
 use lucid_scan::{MAX_SOURCE_BYTES, ScanRefusal, Token, TokenKind, scan};
 use std::alloc::{AllocError, Global};
 use std::test::Fail;
@@ -131,17 +131,16 @@ fn wrong_cut(alloc: Global) -> Option<usize> {
 #[test]
 fn sources_are_refused(rt: HostRuntime) -> Result<(), Fail> {
     let alloc = rt.alloc();
-    for (source, refusal) in REFUSED {
+    for (source, refusal) in &REFUSED {
         must(
-            refusal_of(alloc, source.as_bytes()) == Some(refusal),
+            refusal_of(alloc, source.as_bytes()) == Some(*refusal),
             source,
         )?;
     }
-    for (refusal, wanted) in MESSAGES {
-        must(is_told_so(alloc, &refusal, wanted)?, wanted)?;
+    for (refusal, wanted) in &MESSAGES {
+        must(is_told_so(alloc, refusal, wanted)?, wanted)?;
     }
-    assert_eq!(rt; wrong_cut(alloc), None);
-    Ok(())
+    none_wrong(wrong_cut(alloc), "cut")
 }
 
 // How many tokens a source of so many times this byte has.
@@ -151,11 +150,21 @@ fn count(alloc: Global, byte: u8, times: usize) -> Result<usize, ScanRefusal> {
 }
 
 // A byte, how often it stands, and how many tokens that has.
-const LONG: [(u8, usize, Result<usize, ScanRefusal>); 3] = [
+static LONG: [(u8, usize, Result<usize, ScanRefusal>); 3] = [
     (b' ', MAX_SOURCE_BYTES + 1, Err(ScanRefusal::TooLong)),
     (b' ', MAX_SOURCE_BYTES, Ok(0)),
     (b'(', 1_048_576, Ok(1_048_576)),
 ];
+
+// The number of the first row that has another number of tokens.
+fn wrong_count(alloc: Global) -> Option<usize> {
+    for (number, (byte, times, tokens)) in LONG.iter().enumerate() {
+        if count(alloc, *byte, *times) != *tokens {
+            return Some(number);
+        }
+    }
+    None
+}
 
 // What opens a text, what is repeated in it and how often, and what closes it.
 type Repeated = (&'static str, &'static str, u32, &'static str);
@@ -186,7 +195,7 @@ fn whole(alloc: Global, source: &[u8]) -> Result<Option<TokenKind>, ScanRefusal>
 }
 
 // Texts at their limits.
-const LIMITS: [(Repeated, Result<Option<TokenKind>, ScanRefusal>); 6] = [
+static LIMITS: [(Repeated, Result<Option<TokenKind>, ScanRefusal>); 6] = [
     (("\"", "a", 65_535, "\""), Ok(Some(TokenKind::Quoted))),
     (
         ("\"", "a", 65_536, "\""),
@@ -213,14 +222,18 @@ fn whole_of(
     Ok(whole(alloc, &source))
 }
 
+// The number of the first row whose text is something else.
+fn wrong_limit(alloc: Global) -> Result<Option<usize>, AllocError> {
+    for (number, (row, wanted)) in LIMITS.iter().enumerate() {
+        if whole_of(alloc, *row)? != *wanted {
+            return Ok(Some(number));
+        }
+    }
+    Ok(None)
+}
+
 #[test]
 fn long_sources_and_texts(rt: HostRuntime) -> Result<(), Fail> {
-    let alloc = rt.alloc();
-    for (byte, times, tokens) in LONG {
-        assert_eq!(rt; count(alloc, byte, times), tokens, "{times} times");
-    }
-    for (row, wanted) in LIMITS {
-        assert_eq!(rt; whole_of(alloc, row)?, wanted, "{row:?}");
-    }
-    Ok(())
+    none_wrong(wrong_count(rt.alloc()), "long sources")?;
+    none_wrong(wrong_limit(rt.alloc())?, "limits")
 }

@@ -2,7 +2,7 @@
 ghost use Rattle.std.specs.Prelude.{◌≡◌, IfOk};
 ghost use Rattle.lucid_tree.specs.Tree.{name, call, no_trees, tree};
 
-use crate::told::first_false;
+use crate::told::{first_false, must};
 use lucid_scope::{Binding, ScopeRefusal, Scoped, resolve, resolve_owned};
 use lucid_tree::{Kind, Tree, Trees};
 use lucid_value::{MakeRefusal, Name};
@@ -65,6 +65,5 @@ fn free_names(rt: HostRuntime) -> Result<(), Fail> {
     let wrong = wrong_name(rt.alloc())?;
     let refused = refused_call(rt.alloc())?;
     let is_so = wrong.is_none() && matches!(refused, Some(ScopeRefusal::NoFunction { at: 0 }));
-    assert!(rt; is_so);
-    Ok(())
+    must(is_so, "free names")
 }

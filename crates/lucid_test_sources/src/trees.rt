@@ -5,7 +5,7 @@ ghost use Rattle.lucid_tree.specs.SamplePrograms.{counting};
 ghost use Rattle.lucid_tree.specs.WellMade.{IsWellMade};
 ghost use Rattle.lucid_value.specs.Plain.{int};
 
-use crate::told::first_false;
+use crate::told::{first_false, none_wrong};
 use lucid_ops::Op;
 use lucid_tree::{Block, Def, DefKind, Defs, Kind, Names, Places32, Shape, Tree, Trees};
 use lucid_value::{MakeRefusal, Name, Value};
@@ -237,8 +237,7 @@ fn trees_are_copied(rt: HostRuntime) -> Result<(), Fail> {
         copied_arguments(alloc, call_of_two(alloc)?)? == 2,
         copied_blocks(alloc)? == (2, 2),
     ];
-    assert_eq!(rt; first_false(&facts), None);
-    Ok(())
+    none_wrong(first_false(&facts), "copies")
 }
 
 // The depths of a constant and of the counting program.
@@ -307,6 +306,5 @@ fn trees_and_lists_give_their_parts(rt: HostRuntime) -> Result<(), Fail> {
         places_in_counting(alloc)? == Some((12, 20)),
         places_in_two(alloc)? == Some((3, 5)),
     ];
-    assert_eq!(rt; first_false(&facts), None);
-    Ok(())
+    none_wrong(first_false(&facts), "parts")
 }
