@@ -2,7 +2,7 @@
 ghost use Rattle.std.specs.Prelude.{IfOk};
 ghost use Rattle.lucid_flat.specs.FlatTables.{HasOneRoot};
 
-use crate::told::first_false;
+use crate::told::{first_false, must, none_wrong};
 use lucid_cert_rules::{read_why, show_why};
 use lucid_equations::{
     Entry, NameRow, NameRows, Node, NodeRow, NodeRows, Numbers32, PlaceRow, PlaceRows, ScopeKind,
@@ -14,13 +14,13 @@ use std::alloc::Global;
 use std::test::Fail;
 
 // Texts of tables, sound or not. In the first the one node is a constant, in the second a reference to a name that isn't there.
-const TEXTS: [&[u8]; 6] = [
-    b"lucid flat 1\nconst 1\nnode 0 const 0\nroot 0\n",
-    b"lucid flat 1\nconst 1\nnode 0 refer 0 0\nroot 0\n",
-    b"lucid flat 1\nroot 4294967295\n",
-    b"lucid flat 1\nscope 4294967295 frozen\ninput end_1\ninput end_1\nroot 0\n",
-    b"lucid flat 1\nplace 0 0\nplace 4294967295 4294967295 4294967295\nroot 0\n",
-    b"lucid flat 1\nconst -170141183460469231731687303715884105727\nconst true\nconst dog\nconst `it is'\nconst [% 1 [% %] %]\nconst eod\nconst error\nroot 0\n",
+static TEXTS: [&str; 6] = [
+    "lucid flat 1\nconst 1\nnode 0 const 0\nroot 0\n",
+    "lucid flat 1\nconst 1\nnode 0 refer 0 0\nroot 0\n",
+    "lucid flat 1\nroot 4294967295\n",
+    "lucid flat 1\nscope 4294967295 frozen\ninput end_1\ninput end_1\nroot 0\n",
+    "lucid flat 1\nplace 0 0\nplace 4294967295 4294967295 4294967295\nroot 0\n",
+    "lucid flat 1\nconst -170141183460469231731687303715884105727\nconst true\nconst dog\nconst `it is'\nconst [% 1 [% %] %]\nconst eod\nconst error\nroot 0\n",
 ];
 
 // Whether the table of a text has this text again.
@@ -32,11 +32,11 @@ fn is_shown_again(alloc: Global, text: &[u8]) -> Result<bool, Fail> {
 }
 
 // Texts of certificates, right or not.
-const CERTIFICATES: [&[u8]; 4] = [
-    b"j 0 0 0 0 0 5\n",
-    b"c 0 4294967295 0\nz 1 9223372036854775807\nj 7 2 9223372036854775807 0 0 [% 1 `a b' [% %] %]\nj 8 0 3 0 2 0 0 eod\n",
-    b"j 1 1 0 0 1 4294967295 error\n",
-    b"z 0 0\nj 0 9 0 0 0 `j 0'\n",
+static CERTIFICATES: [&str; 4] = [
+    "j 0 0 0 0 0 5\n",
+    "c 0 4294967295 0\nz 1 9223372036854775807\nj 7 2 9223372036854775807 0 0 [% 1 `a b' [% %] %]\nj 8 0 3 0 2 0 0 eod\n",
+    "j 1 1 0 0 1 4294967295 error\n",
+    "z 0 0\nj 0 9 0 0 0 `j 0'\n",
 ];
 
 // The same of a certificate.
@@ -49,13 +49,11 @@ fn is_certificate_again(alloc: Global, text: &[u8]) -> Result<bool, Fail> {
 
 #[test]
 fn texts_are_shown_again(rt: HostRuntime) -> Result<(), Fail> {
-    for text in TEXTS {
-        let again = is_shown_again(rt.alloc(), text)?;
-        assert!(rt; again, "{text:?}");
+    for text in &TEXTS {
+        must(is_shown_again(rt.alloc(), text.as_bytes())?, text)?;
     }
-    for text in CERTIFICATES {
-        let again = is_certificate_again(rt.alloc(), text)?;
-        assert!(rt; again, "{text:?}");
+    for text in &CERTIFICATES {
+        must(is_certificate_again(rt.alloc(), text.as_bytes())?, text)?;
     }
     Ok(())
 }
@@ -63,7 +61,7 @@ fn texts_are_shown_again(rt: HostRuntime) -> Result<(), Fail> {
 /// A node, and its words: the form, and the numbers in the order of the fields.
 type NodeWords = (Node, &'static str);
 
-const NODES: [NodeWords; 19] = [
+static NODES: [NodeWords; 19] = [
     (Node::Const { constant: 1 }, "const 1"),
     (Node::Input { stream: 2 }, "input 2"),
     (
@@ -102,7 +100,7 @@ const NODES: [NodeWords; 19] = [
 /// A data operator, and its word.
 type OpWord = (Op, &'static str);
 
-const OPS: [OpWord; 35] = [
+static OPS: [OpWord; 35] = [
     (Op::Add, "add"),
     (Op::Sub, "sub"),
     (Op::Mul, "mul"),
@@ -140,21 +138,36 @@ const OPS: [OpWord; 35] = [
     (Op::IsError, "iserror"),
 ];
 
-// The nodes above, and one of each operator; their lines are appended.
-fn each_node(alloc: Global, lines: &mut String) -> Result<NodeRows, Fail> {
-    let mut nodes = Vec::new(alloc);
-    for (node, words) in NODES {
-        nodes.push(NodeRow { scope: 2, node })?;
+// The nodes above and their lines are appended.
+fn push_forms(nodes: &mut Vec<NodeRow>, lines: &mut String) -> Result<(), Fail> {
+    for (node, words) in &NODES {
+        nodes.push(NodeRow {
+            scope: 2,
+            node: *node,
+        })?;
         writeln!(lines, "node 2 {words}")?;
     }
-    for (op, word) in OPS {
+    Ok(())
+}
+
+// A node of each operator and its line are appended.
+fn push_operators(nodes: &mut Vec<NodeRow>, lines: &mut String) -> Result<(), Fail> {
+    for (op, word) in &OPS {
         let node = Node::Apply {
-            op,
+            op: *op,
             args: [12, 13, 14],
         };
         nodes.push(NodeRow { scope: 1, node })?;
         writeln!(lines, "node 1 apply {word} 12 13 14")?;
     }
+    Ok(())
+}
+
+// The nodes above, and one of each operator; their lines are appended.
+fn each_node(alloc: Global, lines: &mut String) -> Result<NodeRows, Fail> {
+    let mut nodes = Vec::new(alloc);
+    push_forms(&mut nodes, lines)?;
+    push_operators(&mut nodes, lines)?;
     if nodes.len() > 100 {
         return Err(Fail::new("too many nodes"));
     }
@@ -308,6 +321,5 @@ fn fields_in_their_order_and_scopes_that_nest(rt: HostRuntime) -> Result<(), Fai
         of_sound(alloc)? == Some((6, 7)),
         is_refused(alloc)?,
     ];
-    assert_eq!(rt; first_false(&facts), None);
-    Ok(())
+    none_wrong(first_false(&facts), "fields and scopes")
 }

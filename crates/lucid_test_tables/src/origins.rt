@@ -1,6 +1,6 @@
 //! Where the rows of tables come from: of each row the place in the source, and the word or the sign that stands there.
 use crate::tables::scoped;
-use crate::told::first_false;
+use crate::told::{first_false, none_wrong};
 use lucid_compile::{Origins, find_origins};
 use std::alloc::Global;
 use std::test::Fail;
@@ -98,7 +98,7 @@ fn wrong_of_row(alloc: Global, row: &Row) -> Result<Option<usize>, Fail> {
 #[test]
 fn rows_come_from_their_places(rt: HostRuntime) -> Result<(), Fail> {
     for row in &ROWS {
-        assert_eq!(rt; wrong_of_row(rt.alloc(), row)?, None, "{}", row.0);
+        none_wrong(wrong_of_row(rt.alloc(), row)?, row.0)?;
     }
     Ok(())
 }
