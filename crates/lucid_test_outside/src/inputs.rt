@@ -92,9 +92,9 @@ static LIMITS: [(u64, u64, Seen, u64); 4] = [
 
 // The first of the limits by which it goes otherwise.
 fn wrong_limit(alloc: Global) -> Result<Option<u64>, Fail> {
-    for (most, index, answer, consumed) in LIMITS {
-        if limited(alloc, most, index)? != (answer, consumed) {
-            return Ok(Some(most));
+    for (most, index, answer, consumed) in &LIMITS {
+        if limited(alloc, *most, *index)? != (*answer, *consumed) {
+            return Ok(Some(*most));
         }
     }
     Ok(None)
@@ -205,9 +205,9 @@ static PIECES: [(u64, Seen, &[u8]); 6] = [
 fn wrong_element(alloc: Global, most: usize) -> Result<Option<u64>, Fail>
     requires { 1 ≤ most }
 {
-    for (index, answer, left) in PIECES {
-        if !leaves(alloc, most, index, answer, left)? {
-            return Ok(Some(index));
+    for (index, answer, left) in &PIECES {
+        if !leaves(alloc, most, *index, *answer, *left)? {
+            return Ok(Some(*index));
         }
     }
     Ok(None)

@@ -1,4 +1,4 @@
-use crate::told::first_false;
+use crate::told::{first_false, none_wrong};
 use lucid_make::*;
 use std::alloc::{AllocError, Global};
 use std::test::Fail;
@@ -28,6 +28,5 @@ fn the_shortest_and_the_longest_program(rt: HostRuntime) -> Result<(), Fail> {
         is_the_program_with_two_names(alloc)?,
         is_the_longest_program(alloc)?,
     ];
-    assert_eq!(rt; first_false(&facts), None);
-    Ok(())
+    none_wrong(first_false(&facts), "made programs")
 }

@@ -2,7 +2,7 @@
 ghost use Rattle.std.specs.Prelude.{◌≡◌, ◌<◌, ◌≤◌, OnOk};
 
 use crate::scripted::{Scripted, Step};
-use crate::told::all_hold;
+use crate::told::{all_hold, must, none_wrong};
 use lucid_ports::{MemoryFile, MemoryOutside, Places, PortFault, RealPlaces, read_at_most};
 use std::alloc::{AllocError, Global};
 use std::cell::Cell;
@@ -53,13 +53,13 @@ fn come_in_order(alloc: Global, steps: &'static [Step], ahead: usize) -> Result<
     Ok(facts == [true, true])
 }
 
-// Steps, and how many bytes are shown ahead.
-const PIECES: [(&[Step], usize); 5] = [
-    (WHOLE, 1),
-    (WHOLE, 2),
-    (WHOLE, 99),
-    (PARTED, 1),
-    (PARTED, 99),
+// Steps, and how many bytes are shown ahead, with a name for both.
+static PIECES: [(&str, &[Step], usize); 5] = [
+    ("whole, 1 ahead", WHOLE, 1),
+    ("whole, 2 ahead", WHOLE, 2),
+    ("whole, 99 ahead", WHOLE, 99),
+    ("parted, 1 ahead", PARTED, 1),
+    ("parted, 99 ahead", PARTED, 99),
 ];
 
 const FAULT: &[Step] = &[Step::Bytes(b"1\n2"), Step::Fault, Step::Bytes(b"2\n")];
@@ -107,20 +107,18 @@ fn goes_on(alloc: Global, ahead: usize) -> Result<bool, Fail> {
 #[test]
 fn bytes_come_in_order_by_pieces_of_any_length(rt: HostRuntime) -> Result<(), Fail> {
     let alloc = rt.alloc();
-    for (steps, ahead) in PIECES {
-        assert!(rt; come_in_order(alloc, steps, ahead)?, "{ahead} ahead");
+    for (name, steps, ahead) in &PIECES {
+        must(come_in_order(alloc, *steps, *ahead)?, name)?;
     }
-    for (name, ahead) in [("a", 1usize), ("-", 1), ("-", 99)] {
-        assert!(rt; loses_nothing(alloc, name, ahead)?, "{name}, {ahead} ahead");
-    }
-    for ahead in [1usize, 99] {
-        assert!(rt; goes_on(alloc, ahead)?, "an end, {ahead} ahead");
-    }
-    Ok(())
+    must(loses_nothing(alloc, "a", 1)?, "a fault, of a file")?;
+    must(loses_nothing(alloc, "-", 1)?, "a fault, 1 ahead")?;
+    must(loses_nothing(alloc, "-", 99)?, "a fault, 99 ahead")?;
+    must(goes_on(alloc, 1)?, "an end, 1 ahead")?;
+    must(goes_on(alloc, 99)?, "an end, 99 ahead")
 }
 
 // How many bytes are shown ahead, how many are read at most, and how many are taken then.
-const TAKEN: [(usize, usize, usize); 6] = [
+static TAKEN: [(usize, usize, usize); 6] = [
     (99, 0, 0),
     (99, 1, 1),
     (99, 6, 6),
@@ -143,17 +141,24 @@ fn read_some(alloc: Global, ahead: usize, most: usize, taken: &Cell<usize>) -> R
     Ok(())
 }
 
+// The number of the first row by which something else is taken.
+fn wrong_taken(alloc: Global) -> Result<Option<usize>, Fail> {
+    let taken = Cell::new(0);
+    for (number, (ahead, most, count)) in TAKEN.iter().enumerate() {
+        read_some(alloc, *ahead, *most, &taken)?;
+        if taken.get() != *count {
+            return Ok(Some(number));
+        }
+    }
+    Ok(None)
+}
+
 // What is left to a reader that shows ahead is what was not consumed; of any other input the whole piece was taken.
 #[test]
 fn no_more_is_taken_of_an_input_that_shows_ahead_than_is_consumed(
     rt: HostRuntime,
 ) -> Result<(), Fail> {
-    let taken = Cell::new(0);
-    for (ahead, most, count) in TAKEN {
-        read_some(rt.alloc(), ahead, most, &taken)?;
-        assert_eq!(rt; taken.get(), count, "{most} at {ahead}");
-    }
-    Ok(())
+    none_wrong(wrong_taken(rt.alloc())?, "taken")
 }
 
 // The files `a` and `-`.
@@ -186,10 +191,10 @@ fn memory_serves(alloc: Global, files: &[MemoryFile], most: usize) -> Result<boo
 #[test]
 fn files_in_memory_serve(rt: HostRuntime) -> Result<(), Fail> {
     let files = two_files(rt.alloc())?;
-    for most in [1usize, 2, 3, 100] {
-        assert!(rt; memory_serves(rt.alloc(), &files, most)?, "{most}");
-    }
-    Ok(())
+    must(memory_serves(rt.alloc(), &files, 1)?, "1 byte")?;
+    must(memory_serves(rt.alloc(), &files, 2)?, "2 bytes")?;
+    must(memory_serves(rt.alloc(), &files, 3)?, "3 bytes")?;
+    must(memory_serves(rt.alloc(), &files, 100)?, "100 bytes")
 }
 
 // How much is shown of an empty file by a runtime that is lent, and the first place of one that is owned.

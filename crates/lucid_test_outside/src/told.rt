@@ -4,7 +4,20 @@ use std::test::Fail;
 
 /// The number of the first that doesn't hold, from 0.
 pub(crate) fn first_false(facts: &[bool]) -> Option<usize> {
-    facts.iter().position(|fact| !*fact)
+    for (number, fact) in facts.iter().enumerate() {
+        if !*fact {
+            return Some(number);
+        }
+    }
+    None
+}
+
+/// A row or a fact that isn't so fails the test, which tells its number.
+pub(crate) fn none_wrong(wrong: Option<usize>, name: &str) -> Result<(), Fail> {
+    match wrong {
+        None => Ok(()),
+        Some(number) => Err(Fail::new(format_args!("{name}: {number}"))),
+    }
 }
 
 /// A row that isn't so fails the test, which tells its name.

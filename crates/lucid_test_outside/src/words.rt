@@ -1,4 +1,4 @@
-use crate::told::{first_false, must};
+use crate::told::{first_false, must, none_wrong};
 use lucid_words::*;
 use std::alloc::{AllocError, Global};
 use std::test::Fail;
@@ -196,23 +196,23 @@ fn wrong_of_a_mix(alloc: Global) -> Result<Option<usize>, WordsRefusal> {
 #[test]
 fn lines_are_read(rt: HostRuntime) -> Result<(), Fail> {
     let alloc = rt.alloc();
-    for (line, numbers) in NUMBERS {
-        gives(alloc, line, Given::Numbers(numbers))?;
+    for (line, numbers) in &NUMBERS {
+        gives(alloc, line, Given::Numbers(*numbers))?;
     }
-    for (line, policy) in POLICIES {
-        gives(alloc, line, Given::Policy(policy))?;
+    for (line, policy) in &POLICIES {
+        gives(alloc, line, Given::Policy(*policy))?;
     }
-    for (line, flags) in FLAGS {
-        gives(alloc, line, Given::Flags(flags))?;
+    for (line, flags) in &FLAGS {
+        gives(alloc, line, Given::Flags(*flags))?;
     }
-    for (line, file) in FILES {
-        gives(alloc, line, Given::File(file))?;
+    for (line, file) in &FILES {
+        gives(alloc, line, Given::File(*file))?;
     }
-    for (line, number) in MADE {
-        gives(alloc, line, Given::Made(number))?;
+    for (line, number) in &MADE {
+        gives(alloc, line, Given::Made(*number))?;
     }
-    for (line, why, check) in CERTIFICATES {
-        gives(alloc, line, Given::Certificate(why, check))?;
+    for (line, why, check) in &CERTIFICATES {
+        gives(alloc, line, Given::Certificate(*why, *check))?;
     }
     Ok(())
 }
@@ -220,12 +220,8 @@ fn lines_are_read(rt: HostRuntime) -> Result<(), Fail> {
 #[test]
 fn defaults_columns_and_a_mix(rt: HostRuntime) -> Result<(), Fail> {
     let alloc = rt.alloc();
-    assert_eq!(rt; most_columns(alloc)?, 16);
-    let wrong = [
-        wrong_default(alloc)?,
-        wrong_of_columns(alloc)?,
-        wrong_of_a_mix(alloc)?,
-    ];
-    assert_eq!(rt; wrong, [None, None, None]);
-    Ok(())
+    must(most_columns(alloc)? == 16, "16 columns")?;
+    none_wrong(wrong_default(alloc)?, "defaults")?;
+    none_wrong(wrong_of_columns(alloc)?, "columns")?;
+    none_wrong(wrong_of_a_mix(alloc)?, "a mix")
 }
