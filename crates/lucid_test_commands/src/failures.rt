@@ -19,7 +19,7 @@ fn read_fails(alloc: Global, failure: FailAt, out: &str, consumed: &[u64]) -> Re
 }
 
 // A position of the input, what is written, and the bytes consumed.
-const OF_INPUT: [(u64, &str, u64); 6] = [
+static OF_INPUT: [(u64, &str, u64); 6] = [
     (0, "", 0),
     (1, "", 1),
     (2, "3\n", 2),
@@ -30,9 +30,13 @@ const OF_INPUT: [(u64, &str, u64); 6] = [
 
 // The first position of the input at which a failure goes otherwise.
 fn wrong_of_input(alloc: Global) -> Result<Option<u64>, Fail> {
-    for (position, out, consumed) in OF_INPUT {
-        if !read_fails(alloc, FailAt { place: 1, position }, out, &[consumed])? {
-            return Ok(Some(position));
+    for (position, out, consumed) in &OF_INPUT {
+        let failure = FailAt {
+            place: 1,
+            position: *position,
+        };
+        if !read_fails(alloc, failure, out, &[*consumed])? {
+            return Ok(Some(*position));
         }
     }
     Ok(None)
@@ -58,7 +62,7 @@ fn write_fails(alloc: Global, most: usize, number: u64, out: &str) -> Result<boo
 }
 
 // The number of the write that fails, and what was written before where a write takes one byte, and where it takes a line.
-const OF_OUT: [(u64, &str, &str); 5] = [
+static OF_OUT: [(u64, &str, &str); 5] = [
     (0, "", ""),
     (1, "0", "0\n"),
     (2, "0\n", "0\n1\n"),
@@ -68,9 +72,9 @@ const OF_OUT: [(u64, &str, &str); 5] = [
 
 // The first write whose failure goes otherwise.
 fn wrong_write(alloc: Global) -> Result<Option<u64>, Fail> {
-    for (number, bytes, lines) in OF_OUT {
-        if !write_fails(alloc, 1, number, bytes)? || !write_fails(alloc, 100, number, lines)? {
-            return Ok(Some(number));
+    for (number, bytes, lines) in &OF_OUT {
+        if !write_fails(alloc, 1, *number, bytes)? || !write_fails(alloc, 100, *number, lines)? {
+            return Ok(Some(*number));
         }
     }
     Ok(None)

@@ -6,7 +6,7 @@ use std::alloc::{AllocError, Global};
 use std::test::Fail;
 
 // The bytes of a source, and the line and the column of each.
-const PLACES: [(usize, Position); 7] = [
+static PLACES: [(usize, Position); 7] = [
     (0, Position { line: 1, column: 1 }),
     (1, Position { line: 1, column: 2 }),
     (2, Position { line: 1, column: 3 }),
@@ -19,9 +19,9 @@ const PLACES: [(usize, Position); 7] = [
 // The first byte that has another place.
 fn other_place() -> Option<usize> {
     let source = b"a\r\n\n bc";
-    for (at, position) in PLACES {
-        if at > 7 || position_of(source, at) != position {
-            return Some(at);
+    for (at, position) in &PLACES {
+        if *at > 7 || position_of(source, *at) != *position {
+            return Some(*at);
         }
     }
     None
@@ -52,7 +52,7 @@ fn told(alloc: Global, source: &str, at: usize) -> Result<String, Fail> {
 }
 
 // Sources, places in them, and what may stand there.
-const STANDING: [(&str, usize, &str); 7] = [
+static STANDING: [(&str, usize, &str); 7] = [
     ("x where x = ; end", 12, "a name a number `(` `if` "),
     ("x where x = 1 end", 14, "`;` `where` an operator "),
     (
@@ -72,8 +72,8 @@ fn is_told(alloc: Global, source: &str, at: usize, wanted: &str) -> Result<bool,
 
 #[test]
 fn what_may_stand(rt: HostRuntime) -> Result<(), Fail> {
-    for (source, at, wanted) in STANDING {
-        let is_so = is_told(rt.alloc(), source, at, wanted)?;
+    for (source, at, wanted) in &STANDING {
+        let is_so = is_told(rt.alloc(), source, *at, wanted)?;
         assert!(rt; is_so, "{source}");
     }
     Ok(())
