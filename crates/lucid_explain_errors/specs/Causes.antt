@@ -51,8 +51,9 @@ cause_of op vs = if is_error (algebra op vs) then Some (cause_by op vs) else Non
 -- what may be meant, where the arguments aren't what the operator wants
 abbrev pub kinds_hint : Op → List ℕ
 kinds_hint Add = codes "Strings, as `red' and `blue', are joined by `^`, and lists by `<>`. \"red\" is a word, and words aren't joined.\n"
-kinds_hint Join = codes "A string is written `red', and \"red\" is a word. Lists are joined by `<>`. A power is written `**`.\n"
+kinds_hint Join = codes "A string is written `red', and \"red\" is a word. Lists are joined by `<>`. A power is written `**`. The string of an integer or a word x is `mkstring x`.\n"
 kinds_hint Cons = codes "A list of two items is `1 :: 2 :: []`. An item with `fby` in it stands in parentheses.\n"
+kinds_hint Append = codes "What differs is written with `ne`, as in `n ne 3`.\n"
 kinds_hint _ = []
 
 -- what is said of it

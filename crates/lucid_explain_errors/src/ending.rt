@@ -34,8 +34,9 @@ fn form_text(form: Form) -> &'static [u8]
         Form::Or => {
             b"it wants `true` or `false`. On both sides of it stands a test, as in `n eq 1 or n eq 2`.\n"
         }
-        Form::Whenever | Form::Asa | Form::Upon => {
-            b"it wants `true` or `false` on its right side.\n"
+        Form::Whenever | Form::Upon => b"it wants `true` or `false` on its right side.\n",
+        Form::Asa => {
+            b"it wants `true` or `false` on its right side. The value of n at time 5 is `n attime 5`.\n"
         }
         Form::Attime => b"it wants a time, from 0 to 9223372036854775807.\n",
         Form::Atspace => b"it wants a space, from 0 to 9223372036854775807.\n",
