@@ -14,8 +14,9 @@ struct Row {
 }
 
 // The nodes of the second and the fifth source are t, a, t, a, next, +, fby; those of the third 3, f(3), x, "b", *; of the fourth u, 1, atspace, 0, u, hd,
-// sby; of the ninth 3, 1, 2, if; of the tenth 1, 0, whenever; of the next 1, 2, 3, -, attime; of the last but one false, 3, or; of the last t, error, t, fby.
-static ROWS: [Row; 15] = [
+// sby; of the ninth 3, 1, 2, if; of the tenth 1, 0, whenever; of the next 1, 2, 3, -, attime; of the fourteenth false, 3, or; of the next t, error, t, fby;
+// of the last three two operands, and then the operator.
+static ROWS: [Row; 18] = [
     Row {
         source: "1 + \"dog\"",
         certificate: "j 0 0 0 0 0 1\nj 1 0 0 0 0 dog\nj 2 0 0 0 2 0 1 error\n",
@@ -105,6 +106,24 @@ static ROWS: [Row; 15] = [
         certificate: "j 1 0 0 0 0 error\nj 3 0 0 0 1 0 error\nj 2 0 0 0 1 1 error\nj 3 0 1 0 1 2 error\nj 2 0 1 0 1 3 error\nj 3 0 2 0 1 4 error\nj 2 0 2 0 1 5 error\nj 3 0 3 0 1 6 error\nj 2 0 3 0 1 7 error\nj 3 0 4 0 1 8 error\nj 2 0 4 0 1 9 error\nj 3 0 5 0 1 10 error\nj 2 0 5 0 1 11 error\nj 3 0 6 0 1 12 error\nj 2 0 6 0 1 13 error\nj 3 0 7 0 1 14 error\nj 0 0 7 0 1 15 error\n",
         input: None,
         text: "The value at time 7 is `error`.\nt at time 7 is `error`.\nt at time 6 is `error`.\n.. 2 more ..\nt at time 3 is `error`.\nt at time 2 is `error`.\nt at time 1 is `error`.\nt at time 0 is `error`.\np:1:13:\nt where t = error fby t; end\n            ^\nHere `error` itself is written.\n",
+    },
+    Row {
+        source: "0 <> 3",
+        certificate: "j 0 0 0 0 0 0\nj 1 0 0 0 0 3\nj 2 0 0 0 2 0 1 error\n",
+        input: None,
+        text: "The value at time 0 is `error`.\np:1:3:\n0 <> 3\n  ^\nAt time 0 `<>` gets 0 and 3: it wants two lists.\nWhat differs is written with `ne`, as in `n ne 3`.\n",
+    },
+    Row {
+        source: "`a' ^ 0",
+        certificate: "j 0 0 0 0 0 `a'\nj 1 0 0 0 0 0\nj 2 0 0 0 2 0 1 error\n",
+        input: None,
+        text: "The value at time 0 is `error`.\np:1:5:\n`a' ^ 0\n    ^\nAt time 0 `^` gets `a' and 0: it wants two strings.\nA string is written `red', and \"red\" is a word. Lists are joined by `<>`. A power is written `**`. The string of an integer or a word x is `mkstring x`.\n",
+    },
+    Row {
+        source: "1 asa 5",
+        certificate: "j 1 0 0 0 0 5\nj 2 0 0 0 1 0 error\n",
+        input: None,
+        text: "The value at time 0 is `error`.\np:1:3:\n1 asa 5\n  ^\nAt time 0 `asa` gets 5: it wants `true` or `false` on its right side. The value of n at time 5 is `n attime 5`.\n",
     },
 ];
 

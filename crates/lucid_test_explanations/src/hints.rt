@@ -146,7 +146,7 @@ static HINTS: [Ends; 40] = [
     Ends {
         source: b"(1, 2)",
         begin: "syntax at 2\n",
-        end: ".\nParentheses that are no call have one expression in them: a list is `x :: y :: []`. Reserved words, as `if` and `next`, are no functions: a choice is written `if .. then .. else .. fi`.\n",
+        end: ".\nParentheses that are no call have one expression in them: a list is `x :: y :: []`. Reserved words, as `if` and `next`, are no functions: a choice is written `if .. then .. else .. fi`, and the value of n two times later `next next n`.\n",
     },
     Ends {
         source: b"f(1) where f(x = x; end",
@@ -206,7 +206,7 @@ static HINTS: [Ends; 40] = [
     Ends {
         source: b"square n where square(x) = x * x; end",
         begin: "syntax at 7\n",
-        end: ".\nIs an operator or `where` missing before this? Arguments stand in parentheses, as in `f(x)`, and a string of words as `two words'.\n",
+        end: ".\nIs an operator or `where` missing before this, or misspelt? Arguments stand in parentheses, as in `f(x)`, and a string of words as `two words'.\n",
     },
     Ends {
         source: b"x + y where x = y y = 2; end",
@@ -310,7 +310,7 @@ static MORE_HINTS: [Ends; 47] = [
     Ends {
         source: b"x is current n",
         begin: "syntax at 2\n",
-        end: ".\n`k is current n;` defines a plain name, behind `where`.\n",
+        end: ".\nTo compare, write `eq`. `k is current n;` defines a plain name, behind `where`.\n",
     },
     Ends {
         source: b"f(2) where f(x) => x + 1; end",
@@ -320,7 +320,7 @@ static MORE_HINTS: [Ends; 47] = [
     Ends {
         source: b"n where n = 0 -> pre n + 1; end",
         begin: "syntax at 15\n",
-        end: ".\nThere is no `->`: a function is written `f(x) = x + 1;`, and `0 fby n` is 0 and then n.\n",
+        end: ".\nThere is no `->`: a function is written `f(x) = x + 1;`, and for `0 -> pre n + 1` write `0 fby n + 1`.\n",
     },
     Ends {
         source: b"prev n where n = 1; end",
@@ -405,7 +405,7 @@ static MORE_HINTS: [Ends; 47] = [
     Ends {
         source: b"next 2 n where n = 0 fby n + 1; end",
         begin: "syntax at 7\n",
-        end: ".\nIs an operator missing before this? A product is written `2 * n`, and the value of n two times later `next next n`.\n",
+        end: ".\nIs an operator missing before this, or misspelt? A product is written `2 * n`, a value and then others `0 fby n`, and the value of n two times later `next next n`.\n",
     },
     Ends {
         source: b"n where n = 0 followed by n + 1; end",
@@ -559,7 +559,7 @@ static CHARACTERS: [Ends; 30] = [
     Ends {
         source: b"n where n := 1; end",
         begin: "bad byte at 10\n",
-        end: "^\nA definition is written with `=`, as `n = 0 fby n + 1;` or `f(x) = x + 1;`, and `::` puts a value in front of a list. Behind a test stands `then`.\n",
+        end: "^\nA definition is written with `=` and ends with `;`, as `n = 0 fby n + 1;` or `f(x) = x + 1;`, and `::` puts a value in front of a list. Behind a test stands `then`.\n",
     },
     Ends {
         source: b"\x00n\x00 ",
@@ -608,6 +608,149 @@ static CHARACTERS: [Ends; 30] = [
     },
 ];
 
+// Hints at slips of the pen, and at what is written so elsewhere.
+static SLIPS: [Ends; 15] = [
+    Ends {
+        source: b"n where n = (1 + 2)); end",
+        begin: "syntax at 19\n",
+        end: ".\nIn this definition no `(` is open: leave the `)` out, or end the definition with `;`, and its block with `end`.\n",
+    },
+    Ends {
+        source: b"if true then (1)) else 0 fi",
+        begin: "syntax at 16\n",
+        end: ".\nIn this `if` no `(` is open: leave the `)` out, or end the `if` with `else` and `fi`. To keep some values alone, write `n whenever n > 3`.\n",
+    },
+    Ends {
+        source: b"if true then 1 else (0)) fi",
+        begin: "syntax at 23\n",
+        end: ".\nIn this `if` no `(` is open: leave the `)` out, or end the `if`, which has `then`, `else` and `fi`.\n",
+    },
+    Ends {
+        source: b"n where = 1; end",
+        begin: "syntax at 8\n",
+        end: ".\nThe name that is defined is missing before this.\n",
+    },
+    Ends {
+        source: b"n where n = 0 then n + 1; end",
+        begin: "syntax at 14\n",
+        end: ".\nIn this definition no `if` is open: a choice is written `if .. then .. else .. fi`. What follows a first value stands behind `fby`, as in `0 fby n`.\n",
+    },
+    Ends {
+        source: b"n whenever n > 3 else 0",
+        begin: "syntax at 17\n",
+        end: ".\nBefore this no `if` is open: a choice is written `if .. then .. else .. fi`. What follows a first value stands behind `fby`, as in `0 fby n`.\n",
+    },
+    Ends {
+        source: b"if (1 < 2 then 1 else 0 fi",
+        begin: "syntax at 10\n",
+        end: ".\nA `(` stands open before this: its `)` is missing.\n",
+    },
+    Ends {
+        source: b"n next where n = 1; end",
+        begin: "syntax at 2\n",
+        end: ".\nThis operator stands before what it takes, as in `next n`.\n",
+    },
+    Ends {
+        source: b"n where n = 0;\n  fby n + 1;\nend",
+        begin: "syntax at 17\n",
+        end: ".\nThis operator stands between two expressions, as `fby` in `0 fby n`: before it stands no `;`.\n",
+    },
+    Ends {
+        source: b"n where n = 1; mod = 2; end",
+        begin: "syntax at 15\n",
+        end: ".\nThis word is reserved: no name is spelled so.\n",
+    },
+    Ends {
+        source: b"n where n = 1; print n; end",
+        begin: "syntax at 21\n",
+        end: ".\nThere is no `print`: a program writes the values of its subject, with which it begins.\n",
+    },
+    Ends {
+        source: b"print n where n = 1; end",
+        begin: "syntax at 6\n",
+        end: ".\nThere is no `print`: a program writes the values of its subject, with which it begins.\n",
+    },
+    Ends {
+        source: b"n where n - 0 fby 1; end",
+        begin: "syntax at 10\n",
+        end: ".\nA definition begins with the name that it defines, and then `=`: `n = 1;`. Parameters stand in parentheses: `f(x) = x + 1;`.\n",
+    },
+    Ends {
+        source: b"if n is 3 then 1 else 2 fi",
+        begin: "syntax at 5\n",
+        end: ".\nTo compare, write `eq`. `k is current n;` defines a plain name, behind `where`.\n",
+    },
+    Ends {
+        source: b"n - last n where n = 1; end",
+        begin: "syntax at 9\n",
+        end: ".\nThe value of n one time before is `0 fby n`, which is 0 at first.\n",
+    },
+];
+
+// The same of bytes that are no tokens.
+static SIGNS: [Ends; 12] = [
+    Ends {
+        source: b"n\xc2\xb2",
+        begin: "bad byte at 1\n",
+        end: "^\nA power is written with `**`, as in `n ** 2`.\n",
+    },
+    Ends {
+        source: b"\xc2\xb4two words\xc2\xb4",
+        begin: "bad byte at 0\n",
+        end: "^\nHere stands a typographic quotation mark: a string begins with a backquote and ends with a plain ', as `two words'.\n",
+    },
+    Ends {
+        source: b"true \xe2\x88\xa7 false",
+        begin: "bad byte at 5\n",
+        end: "^\nWrite `and`.\n",
+    },
+    Ends {
+        source: b"\xc2\xacfalse",
+        begin: "bad byte at 0\n",
+        end: "^\nWrite `not` before a truth.\n",
+    },
+    Ends {
+        source: b"~false",
+        begin: "bad byte at 0\n",
+        end: "^\nWrite `not` before a truth.\n",
+    },
+    Ends {
+        source: b"n\xe2\x80\x8b where n = 1; end",
+        begin: "bad byte at 1\n",
+        end: "^\nA character that isn't seen stands here: leave it out.\n",
+    },
+    Ends {
+        source: b"n where n = 1\xef\xbc\x9b end",
+        begin: "bad byte at 13\n",
+        end: "^\nA wide character stands here: write the plain one.\n",
+    },
+    Ends {
+        source: b"n where n = [0..]; end",
+        begin: "bad byte at 12\n",
+        end: "^\nThere are no ranges: `n = 0 fby n + 1;` is 0, 1, 2, .., and --count N says how many are written.\n",
+    },
+    Ends {
+        source: b"[1, 2]",
+        begin: "bad byte at 0\n",
+        end: "^\nA list of constants is written `[% 1 2 3 %]`, with blanks between its items and no commas. Of computed items it is `a :: b :: []`.\n",
+    },
+    Ends {
+        source: b"{- a clock -}",
+        begin: "bad byte at 0\n",
+        end: "^\nA comment begins with `//`.\n",
+    },
+    Ends {
+        source: b"node c() returns (n: int);",
+        begin: "bad byte at 19\n",
+        end: "^\nA program begins with an expression, and its definitions stand behind `where`: `n where n = 0 fby n + 1; f(x) = x + 1; end`.\n",
+    },
+    Ends {
+        source: b"% a clock",
+        begin: "bad byte at 0\n",
+        end: "^\nWhat a division leaves over is `mod`. A comment begins with `//`.\n",
+    },
+];
+
 // Whether a report begins and ends so.
 fn has_ends(report: &[u8], row: &Ends) -> bool {
     report.starts_with(row.begin.as_bytes()) && report.ends_with(row.end.as_bytes())
@@ -640,4 +783,14 @@ fn more_hints_are_given(rt: HostRuntime) -> Result<(), Fail> {
 #[test]
 fn characters_are_told(rt: HostRuntime) -> Result<(), Fail> {
     each_ends(rt.alloc(), &CHARACTERS)
+}
+
+#[test]
+fn slips_are_told(rt: HostRuntime) -> Result<(), Fail> {
+    each_ends(rt.alloc(), &SLIPS)
+}
+
+#[test]
+fn signs_are_told(rt: HostRuntime) -> Result<(), Fail> {
+    each_ends(rt.alloc(), &SIGNS)
 }

@@ -124,7 +124,7 @@ static TOKENS: [Row; 7] = [
 ];
 
 // Names that are at fault.
-static NAMES: [Row; 13] = [
+static NAMES: [Row; 16] = [
     Row {
         words: "p",
         source: "x where x = 1; x = 2; end",
@@ -203,6 +203,24 @@ static NAMES: [Row; 13] = [
         status: Status::Refused,
         report: "no such function at 0\np:1:1:\nsum(n) where n = 1; end\n^\nNo function of this name is in scope here. The sum of x so far is s, with `s = x fby s + next x;`.\n",
     },
+    Row {
+        words: "p",
+        source: "IF(1 < 2, 1, 0)",
+        status: Status::Refused,
+        report: "no such function at 0\np:1:1:\nIF(1 < 2, 1, 0)\n^\nReserved words are spelled in small letters: `if n > 3 then 1 else 0 fi`, `n mod 2`, `next n`, `nth(l, 2)`.\n",
+    },
+    Row {
+        words: "p",
+        source: "range(5)",
+        status: Status::Refused,
+        report: "no such function at 0\np:1:1:\nrange(5)\n^\nNo function of this name is in scope here. 0, 1, 2, .. is n, with `n = 0 fby n + 1;`, and --count N says how many are written.\n",
+    },
+    Row {
+        words: "p",
+        source: "str(1)",
+        status: Status::Refused,
+        report: "no such function at 0\np:1:1:\nstr(1)\n^\nNo function of this name is in scope here. The string of an integer or a word x is `mkstring x`.\n",
+    },
 ];
 
 // Inputs and columns.
@@ -264,7 +282,7 @@ static INPUTS: [Row; 9] = [
 ];
 
 // Words that are refused.
-static WORDS: [Row; 9] = [
+static WORDS: [Row; 10] = [
     Row {
         words: "p --print --cycles",
         source: "1",
@@ -318,6 +336,12 @@ static WORDS: [Row; 9] = [
         source: "1",
         status: Status::Usage,
         report: "usage: lucid [--count N] [--depth N] [--policy keep|none|age|last] [--age K] [--room N] [--stats] [--print] [--columns LIST] [--cycles] [--why T] [--check FILE] [--flat] [--from-flat] PROGRAM [NAME=FILE]... | lucid --make N\nThis word doesn't go with those before it: --counter=3\nThe line above has the options, each of which is given once at most; of --print, --columns, --cycles, --why, --check, --flat and --from-flat one alone is given. --columns has names with commas between them, as n,m, and --why a time.\n",
+    },
+    Row {
+        words: "p -",
+        source: "1",
+        status: Status::Usage,
+        report: "usage: lucid [--count N] [--depth N] [--policy keep|none|age|last] [--age K] [--room N] [--stats] [--print] [--columns LIST] [--cycles] [--why T] [--check FILE] [--flat] [--from-flat] PROGRAM [NAME=FILE]... | lucid --make N\nThis word doesn't go with those before it: -\nNo file is called `-`: the program stands in a file, and an input without NAME=FILE is read from the standard input.\n",
     },
 ];
 
@@ -525,7 +549,7 @@ fn reports_are_explained(rt: HostRuntime) -> Result<(), Fail> {
 }
 
 // What is asked, of which source, and how the report begins at a terminal; it is empty where nothing is said.
-static PROMPTS: [(&str, &str, &str); 10] = [
+static PROMPTS: [(&str, &str, &str); 12] = [
     (
         "p",
         "a",
@@ -555,6 +579,16 @@ static PROMPTS: [(&str, &str, &str); 10] = [
         "p",
         "n // 2",
         "The input n is read from here, a value on each line.\nBehind it begins a comment, with `//`: whole division is `div`.\nread fault\n",
+    ),
+    (
+        "p",
+        "O + 1",
+        "The input O is read from here, a value on each line.\nIf no input is meant: define the name. If 0 or 1 is meant: this is a letter.\nread fault\n",
+    ),
+    (
+        "p",
+        "1 :: nil",
+        "The input nil is read from here, a value on each line.\nThe empty list is written `[]`.\nread fault\n",
     ),
     ("p sale=p", "sales * 2", "no input is named sale\n"),
     ("p a=p a=p", "a + b", "a is given twice\n"),
