@@ -609,7 +609,7 @@ static CHARACTERS: [Ends; 30] = [
 ];
 
 // Hints at slips of the pen, and at what is written so elsewhere.
-static SLIPS: [Ends; 15] = [
+static SLIPS: [Ends; 19] = [
     Ends {
         source: b"n where n = (1 + 2)); end",
         begin: "syntax at 19\n",
@@ -624,6 +624,16 @@ static SLIPS: [Ends; 15] = [
         source: b"if true then 1 else (0)) fi",
         begin: "syntax at 23\n",
         end: ".\nIn this `if` no `(` is open: leave the `)` out, or end the `if`, which has `then`, `else` and `fi`.\n",
+    },
+    Ends {
+        source: b"f(if 1 < 2 then 1 else 0) where f(x) = x; end",
+        begin: "syntax at 24\n",
+        end: ".\nIn this `if` no `(` is open: leave the `)` out, or end the `if`, which has `then`, `else` and `fi`.\n",
+    },
+    Ends {
+        source: b"(n where n = 1) + 1",
+        begin: "syntax at 14\n",
+        end: ".\nIn this definition no `(` is open: leave the `)` out, or end the definition with `;`, and its block with `end`.\n",
     },
     Ends {
         source: b"n where = 1; end",
@@ -649,6 +659,11 @@ static SLIPS: [Ends; 15] = [
         source: b"n next where n = 1; end",
         begin: "syntax at 2\n",
         end: ".\nThis operator stands before what it takes, as in `next n`.\n",
+    },
+    Ends {
+        source: b"f next n where f(x) = x; n = 1; end",
+        begin: "syntax at 2\n",
+        end: ".\nIs an operator or `where` missing before this, or misspelt? Arguments stand in parentheses, as in `f(x)`, and a string of words as `two words'.\n",
     },
     Ends {
         source: b"n where n = 0;\n  fby n + 1;\nend",
@@ -679,6 +694,11 @@ static SLIPS: [Ends; 15] = [
         source: b"if n is 3 then 1 else 2 fi",
         begin: "syntax at 5\n",
         end: ".\nTo compare, write `eq`. `k is current n;` defines a plain name, behind `where`.\n",
+    },
+    Ends {
+        source: b"x where x = last end",
+        begin: "syntax at 17\n",
+        end: ".\nEach definition ends with `;`, the last one before `end` too.\n",
     },
     Ends {
         source: b"n - last n where n = 1; end",
