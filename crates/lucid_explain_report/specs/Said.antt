@@ -168,7 +168,8 @@ stands_alone word = same_bytes word (codes "--help") || same_bytes word (codes "
 
 abbrev pub word_advice : (word : Text) → List ℕ
 word_advice word =
-    if stands_alone word then codes "`--help` and `--version` stand alone, as in `lucid_explain --help`.\n"
+    if same_bytes word (codes "-") then codes "No file is called `-`: the program stands in a file, and an input without NAME=FILE is read from the standard input.\n"
+    else if stands_alone word then codes "`--help` and `--version` stand alone, as in `lucid_explain --help`.\n"
     else if is_number_option (option_of word) then codes "This option has a number from 1 to 1000000, in digits alone, and is given once at most.\n"
     else if same_bytes (option_of word) (codes "--policy") then codes "The policies are keep, none, age and last, and the option is given once at most.\n"
     else if begins word (codes "-") then codes "The line above has the options, each of which is given once at most; of --print, --columns, --cycles, --why, --check, --flat and --from-flat one alone is given. --columns has names with commas between them, as n,m, and --why a time.\n"

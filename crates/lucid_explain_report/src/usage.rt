@@ -123,7 +123,9 @@ fn word_advice(word: &[u8]) -> &'static [u8]
     ensures { result.now ≡ word_advice word.now }
 {
     let option = option_of(word);
-    if stands_alone(word) {
+    if word == b"-".as_slice() {
+        b"No file is called `-`: the program stands in a file, and an input without NAME=FILE is read from the standard input.\n"
+    } else if stands_alone(word) {
         b"`--help` and `--version` stand alone, as in `lucid_explain --help`.\n"
     } else if is_number_option(option) {
         b"This option has a number from 1 to 1000000, in digits alone, and is given once at most.\n"
