@@ -19,7 +19,7 @@ use crate::remembering::Remembering;
 use crate::watched::Watched;
 use lucid_explain_report::{Outlook, explain_stop, stop_text};
 use lucid_ports::{Places, PortFault, Sink, write_whole};
-use lucid_report::{Done, Status, Stop, write_outcome};
+use lucid_report::{Done, Status, Stop, words_of, write_outcome};
 use lucid_top::outcome_of;
 use std::alloc::{AllocError, Global};
 
@@ -239,16 +239,6 @@ pub fn lucid_explain<P: Places, K: Sink, E: Sink, F: Outlook>(
     let behind = behind_of(status, out.noted());
     report_behind(alloc, &called, behind, outlook, report);
     status
-}
-
-// The words after the command's own name.
-fn words_of(arguments: &[String]) -> &[String]
-    ensures { result.now ≡ drop 1 arguments.now }
-{
-    match arguments {
-        [_, words @ ..] => words,
-        [] => &[],
-    }
 }
 
 /// The same by all arguments of a command line, of which the first is the command's own name.
