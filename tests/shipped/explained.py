@@ -37,6 +37,13 @@ def a_pipe_is_explained(run):
 
 
 @case
+def long_lines_of_an_input_are_read_whole(run):
+    run.source("a")
+    run.write("f", lines("`" + "x" * 1000 + "'", "`" + "y" * 256 + "'", 1))
+    run.explaining().lucid("p", "a=f").must(lines("`" + "x" * 1000 + "'", "`" + "y" * 256 + "'", 1), 0, "")
+
+
+@case
 def a_column_that_is_missing(run):
     run.source("x where x = 1; end")
     said = "A column is a name that the program's outermost block defines without parameters.\nx is defined in line 1, column 9.\n"

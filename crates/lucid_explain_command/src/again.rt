@@ -93,11 +93,7 @@ fn add_given<F: Outlook>(
 }
 
 // The source, where it wasn't read from the standard input.
-fn read_before(
-    alloc: Global,
-    name: &str,
-    source: &[u8],
-) -> Result<Option<Vec<u8>>, AllocError>
+fn read_before(alloc: Global, name: &str, source: &[u8]) -> Result<Option<Vec<u8>>, AllocError>
     ensures { IfOk result (λ found. option_map (λ bytes. bytes.items) found ≡ (if is_standard name.now then None else Some source.now)) }
 {
     if is_standard(name) {
@@ -108,11 +104,7 @@ fn read_before(
 }
 
 // The file of the source alone.
-fn file_read(
-    alloc: Global,
-    name: &str,
-    source: &[u8],
-) -> Result<Vec<MemoryFile>, AllocError>
+fn file_read(alloc: Global, name: &str, source: &[u8]) -> Result<Vec<MemoryFile>, AllocError>
     ensures { IfOk result (λ files. map plain_file files.items ≡ file_read name.now source.now) }
 {
     let mut files = Vec::new(alloc);

@@ -225,7 +225,7 @@ pub fn lucid_explain<P: Places, K: Sink, E: Sink, F: Outlook>(
 ) -> Status
     requires { (P.world places.old.inner).reached ≡ 0 }
     ensures { IsExplained (F.files outlook.now) (F.terminal outlook.now) (map string_bytes words.now)
-        (call (words_asked (map string_bytes words.now)) (remembered (plain_kept places.old.kept) places.old.faults places.old.late (P.world places.old.inner)) (remembered (plain_kept places.new.kept) places.new.faults places.new.late (P.world places.new.inner)) (told K.written K.faults K.late out.old.sink) (told K.written K.faults K.late out.new.sink))
+        (call (words_asked (map string_bytes words.now)) (remembered (plain_kept places.old.kept) (P.world places.old.inner)) (remembered (plain_kept places.new.kept) (P.world places.new.inner)) (told K.written K.faults K.late out.old.sink) (told K.written K.faults K.late out.new.sink))
         (plain_kept places.new.kept).taken (plain_noted out.new.noted)
         (told E.written E.faults E.late report.old) (told E.written E.faults E.late report.new) result }
 {
@@ -252,7 +252,7 @@ pub fn lucid_explain_from_arguments<P: Places, K: Sink, E: Sink, F: Outlook>(
 ) -> Status
     requires { (P.world places.old.inner).reached ≡ 0 }
     ensures { IsExplained (F.files outlook.now) (F.terminal outlook.now) (map string_bytes (drop 1 arguments.now))
-        (call (words_asked (map string_bytes (drop 1 arguments.now))) (remembered (plain_kept places.old.kept) places.old.faults places.old.late (P.world places.old.inner)) (remembered (plain_kept places.new.kept) places.new.faults places.new.late (P.world places.new.inner)) (told K.written K.faults K.late out.old.sink) (told K.written K.faults K.late out.new.sink))
+        (call (words_asked (map string_bytes (drop 1 arguments.now))) (remembered (plain_kept places.old.kept) (P.world places.old.inner)) (remembered (plain_kept places.new.kept) (P.world places.new.inner)) (told K.written K.faults K.late out.old.sink) (told K.written K.faults K.late out.new.sink))
         (plain_kept places.new.kept).taken (plain_noted out.new.noted)
         (told E.written E.faults E.late report.old) (told E.written E.faults E.late report.new) result }
 {

@@ -76,7 +76,13 @@ fn text_made<F: Outlook>(
     ensures { IfOk result (λ text. SaysMade (F.files outlook.now) (plain_words call.now.asked.now) call.now.name.now call.now.source.now certificate.now text.items) }
 {
     let inputs = inputs_again(alloc, &call.asked.given, outlook)?;
-    explain_error(alloc, call.name.as_bytes(), call.source, certificate, &inputs)
+    explain_error(
+        alloc,
+        call.name.as_bytes(),
+        call.source,
+        certificate,
+        &inputs,
+    )
 }
 
 // What is said by the source that was read.

@@ -17,6 +17,7 @@ mod errors;
 mod help;
 mod kept;
 mod noted;
+mod piece;
 mod prompt;
 mod remembering;
 mod watched;

@@ -1,4 +1,4 @@
-use Rattle.lucid_explain_command.proofs.Common.{ℕ, ◌+◌, ◌≡◌, List, [], ◌∷◌, ◌++◌, map, take, sym, ap, ◌∙◌, string_bytes, map-append, Text, Given, plain_given, given_file}
+use Rattle.lucid_explain_command.proofs.Common.{◌+◌, ◌≡◌, List, [], ◌∷◌, ◌++◌, map, take, sym, ap, ◌∙◌, string_bytes, map-append, Text, Given, plain_given, given_file}
 use Rattle.std.proofs.lemmas.List.{map_more}
 use Rattle.lucid_explain_command.specs.Errors.{plain_file, as_named}
 use Rattle.lucid_explain_command.proofs.ReadAgain.{adds_none, adds_both, adds_of}

@@ -1,7 +1,7 @@
-use Rattle.lucid_explain_command.proofs.Common.{ℕ, ◌+◌, ◌≡◌, List, [], ◌∷◌, ◌++◌, map, take, sym, ap, ◌∙◌, refl, subst, Text, Given, plain_given}
-use Rattle.std.proofs.lemmas.List.{map_more, take_all}
+use Rattle.lucid_explain_command.proofs.Common.{ℕ, ◌+◌, ◌≡◌, List, [], ◌∷◌, ◌++◌, map, take, sym, ap, ◌∙◌, subst, Text, Given, plain_given}
+use Rattle.std.proofs.lemmas.List.{map_more}
 use Rattle.lucid_explain_command.specs.Errors.{plain_input, Adds}
-use Rattle.lucid_explain_command.proofs.ReadAgain.{adds_none, adds_both, adds_of, adds_all}
+use Rattle.lucid_explain_command.proofs.ReadAgain.{adds_none, adds_both, adds_of}
 use Rattle.lucid_explain_command.proofs.again.inputs_again.Goals as goal
 
 pub loop-word-init : goal.loop-word-init

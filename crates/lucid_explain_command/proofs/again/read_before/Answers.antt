@@ -1,8 +1,5 @@
-use Rattle.std.proofs.Common.{Some, ap, sym, ◌∙◌}
+use Rattle.std.proofs.Common.{sym, ◌∙◌}
 use Rattle.lucid_explain_command.proofs.again.read_before.Goals as goal
 
 pub returns-then-is_standard : goal.returns-then-is_standard
 returns-then-is_standard c = rw (sym c.is_standard.ensures ∙ c.if-is_standard.true)
-
-pub returns-else-is_standard : goal.returns-else-is_standard
-returns-else-is_standard c = rw (sym c.is_standard.ensures ∙ c.if-is_standard.false) (ap Some c.in_ok-from_slice.ensures.items)

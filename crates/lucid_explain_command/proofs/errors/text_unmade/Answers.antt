@@ -1,5 +1,5 @@
-use Rattle.lucid_explain_command.proofs.Common.{ℕ, List, map, sym, subst, ◌≡◌, ◌∙◌, ap, plain_words, IfOk-weaker}
-use Rattle.std.specs.Prelude.{Bool, true, false}
+use Rattle.lucid_explain_command.proofs.Common.{sym, subst, ◌≡◌, ◌∙◌, ap, plain_words, IfOk-weaker}
+use Rattle.std.specs.Prelude.{Bool}
 use Rattle.lucid_explain_command.specs.Errors.{behind_free, SaysUnmade}
 use Rattle.lucid_explain_command.proofs.errors.text_unmade.Goals as goal
 

@@ -1,6 +1,6 @@
-use Rattle.std.proofs.Common.{◌≡◌, ◌≤◌, ◌+◌, ◌-◌, length, drop, arith, sym}
+use Rattle.std.proofs.Common.{arith, sym}
 use Rattle.std.proofs.lemmas.List.{drop-drop, length-drop}
-use Rattle.lucid_explain_command.proofs.FirstKept.{take_next}
+use Rattle.std.proofs.Math.Seq.{take-add}
 use Rattle.lucid_explain_command.proofs.kept.Kept.consume.Goals as goal
 
 pub invariant_of-self : goal.invariant_of-self
@@ -12,7 +12,7 @@ invariant_of-self c =
     }
 
 pub returns-clause-taken : goal.returns-clause-taken
-returns-clause-taken c = take_next c.args.self.now.consumed c.args.n c.args.self.now.bytes.items
+returns-clause-taken c = take-add c.args.self.now.consumed c.args.n c.args.self.now.bytes.items
 
 pub returns-clause-shown : goal.returns-clause-shown
 returns-clause-shown c = sym (drop-drop c.args.n c.args.self.now.consumed c.args.self.now.bytes.items)
