@@ -33,7 +33,6 @@ def a_pipe_is_explained(run):
     os.mkfifo(run.path("pipe"))
     ended = run.explaining().shell("printf '1 / 2' > pipe & exec \"$LUCID\" pipe")
     ended.must("", 1, "bad byte at 2\npipe:1:3:\n1 / 2\n  ^\n" + DIVISION)
-    run.explaining().lucid("-", given=b"1 / 2").must("", 1, "bad byte at 2\n-:1:3:\n1 / 2\n  ^\n" + DIVISION)
 
 
 @case
