@@ -192,15 +192,14 @@ def a_picture_has_a_box_for_each_value_and_an_arrow_for_each_look(run):
 
 @case
 def each_picture_is_drawn_by_another_program(run):
-    drawing = shutil.which("rsvg-convert") or shutil.which("inkscape") or shutil.which("convert")
+    drawing = shutil.which("rsvg-convert") or shutil.which("inkscape")
     if drawing is None:
         return
     at, to = run.path("picture.svg"), run.path("picture.png")
-    how = {"rsvg-convert": ["-o", to, at], "inkscape": ["-o", to, at], "convert": [at, to]}[drawing.rsplit("/", 1)[1]]
     for name, (source, time, inputs) in SHOWN.items():
         words, _ = demanded(run, source, time, inputs)
         run.write("picture.svg", run.showing().lucid("--as", "svg", "--at", str(time), *words).must().out.decode())
-        subprocess.run([drawing, *how], check=True, capture_output=True, timeout=60)
+        subprocess.run([drawing, "-o", to, at], check=True, capture_output=True, timeout=60)
         with open(to, "rb") as it:
             check(it.read(8) == b"\x89PNG\r\n\x1a\n", f"{name}: no picture was drawn")
 
