@@ -102,7 +102,7 @@ PROGRAMS = {
     "moving_average": ("moving_average", 100_000, []),
     "variance": ("variance", 100_000, []),
     "debounce": ("debounce", 100_000, []),
-    "rle": ("rle", 20_000, []),
+    "rle": ("rle", 20_000, DEEP),
     "dedupe": ("dedupe", 250, []),
 }
 
