@@ -171,6 +171,9 @@ impl Warehouse {
     }
 
     /// The value of a key, which is then the key last touched, with age 0. It takes no memory.
+    // Inlined: a demand looks here at each reference, from two places of the engine, so the compiler would leave it a function of its own.
+    // That costs about 60 instructions for each reference.
+    #[inline(always)]
     pub fn get(&mut self, key: Key) -> Option<&Value>
         ensures* after { sem 𝓛 (EndsTouched self.entry key) }
         ensures value { option_copied result ≡ value_at self.old key }
