@@ -70,18 +70,7 @@ fn moved(program: &Program, tags: &mut Tags, task: Task) -> Result<Option<Task>,
             ..task
         }),
         Node::Next { .. } | Node::Succ { .. } => None,
-        Node::Const { .. }
-        | Node::Input { .. }
-        | Node::Apply { .. }
-        | Node::If { .. }
-        | Node::And { .. }
-        | Node::Or { .. } => None,
-        Node::Whenever { .. }
-        | Node::Asa { .. }
-        | Node::Upon { .. }
-        | Node::Attime { .. }
-        | Node::Atspace { .. } => None,
-        Node::Refer { .. } | Node::Call { .. } => None,
+        _ => None,
     })
 }
 

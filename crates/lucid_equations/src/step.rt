@@ -110,6 +110,22 @@ impl Place {
         part_at(part, self.reached, self.space)
     }
 
+    // What the forms do that only move the point; any other does nothing here.
+    #[inline(always)]
+    fn moved(self, form: Form) -> Step
+        ensures { result ≡ moved_step form self }
+    {
+        match form {
+            Form::First => Step::Part(part_at(0, 0, self.space)),
+            Form::Next => self.next(),
+            Form::Fby => self.fby(),
+            Form::Initial => Step::Part(part_at(0, self.time, 0)),
+            Form::Succ => self.succ(),
+            Form::Sby => self.sby(),
+            _ => Step::Nothing,
+        }
+    }
+
     #[inline(always)]
     fn next(self) -> Step
         ensures { result ≡ moved_step forms.Next self }
@@ -226,17 +242,12 @@ pub fn begin(form: Form, place: Place) -> Start
         Form::If => Start::Look(place.part(0)),
         Form::And => Start::Look(place.part(0)),
         Form::Or => Start::Look(place.part(0)),
-        Form::First => Start::Step(Step::Part(part_at(0, 0, place.space))),
-        Form::Next => Start::Step(place.next()),
-        Form::Fby => Start::Step(place.fby()),
         Form::Whenever => place.search(),
         Form::Asa => place.search(),
         Form::Upon => place.count_below(),
         Form::Attime => Start::Look(place.part(1)),
-        Form::Initial => Start::Step(Step::Part(part_at(0, place.time, 0))),
-        Form::Succ => Start::Step(place.succ()),
-        Form::Sby => Start::Step(place.sby()),
         Form::Atspace => Start::Look(place.part(1)),
+        _ => Start::Step(place.moved(form)),
     }
 }
 
@@ -258,8 +269,6 @@ pub fn after(form: Form, place: Place, answer: Answer) -> Step
         Form::Upon => by_truth(answer, on, past),
         Form::Attime => place.attime(answer),
         Form::Atspace => place.atspace(answer),
-        Form::First | Form::Next | Form::Fby | Form::Initial | Form::Succ | Form::Sby => {
-            Step::Nothing
-        }
+        _ => Step::Nothing,
     }
 }

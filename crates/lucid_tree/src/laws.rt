@@ -25,17 +25,6 @@ pub fn first_and_next_undo_fby()
     ensures next { NextOfFby }
 {}
 
-/// `asa` is `first` of `whenever`.
-pub fn asa_is_first_of_whenever()
-    ensures { AsaIsFirstOfWhenever }
-{}
-
-/// `whenever` and `upon` are what their equations say, `whenever` at one more, `upon` at each limit of at least its time.
-pub fn search_equations()
-    ensures whenever { WheneverEquation }
-    ensures upon { UponEquation }
-{}
-
 /// `initial` and `succ` undo `sby`, `succ` below the last space.
 pub fn initial_and_succ_undo_sby()
     ensures initial { InitialOfSby }
@@ -81,6 +70,17 @@ pub fn next_looks_are_traced()
     ensures among { NextLooksAreAmong }
     ensures from_some_on { NextLooksAreAmongFromSomeOn }
     ensures on_the_way { LooksAreOnTheWay }
+{}
+
+/// `asa` is `first` of `whenever`.
+pub fn asa_is_first_of_whenever()
+    ensures { AsaIsFirstOfWhenever }
+{}
+
+/// `whenever` and `upon` are what their equations say, `whenever` at one more, `upon` at each limit of at least its time.
+pub fn search_equations()
+    ensures whenever { WheneverEquation }
+    ensures upon { UponEquation }
 {}
 
 /// A count of true values stays, and is one of truths; it leads a search to its time, and a search begins at its plan.
