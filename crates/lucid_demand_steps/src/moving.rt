@@ -69,7 +69,6 @@ fn moved(program: &Program, tags: &mut Tags, task: Task) -> Result<Option<Task>,
             tag: tags.enter_frozen(task.tag, time)?,
             ..task
         }),
-        Node::Next { .. } | Node::Succ { .. } => None,
         _ => None,
     })
 }
