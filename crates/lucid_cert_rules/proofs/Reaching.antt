@@ -47,7 +47,7 @@ one_of_there [] i h = absurd (cc)
 one_of_there (n ∷ ns) i h = elim (or_cases (nat_eq i n) (is_one_of ns i) h) [ inl e ↦ inl (eqb-true i n e) | inr e ↦ inr (one_of_there ns i e) ]
 
 -- cells that the test calls one are one
-same_is_one : (c d : Cell) → same_cell c d ≡ true → c ≡ d
+pub same_is_one : (c d : Cell) → same_cell c d ≡ true → c ≡ d
 same_is_one (Named i) (Named j) h = ap Named (eqb-true i j h)
 same_is_one (Named i) (Element l u) h = absurd (cc)
 same_is_one (Element k t) (Named j) h = absurd (cc)

@@ -12,6 +12,7 @@ use Rattle.std.proofs.lemmas.Option.{none-some, same_Some, slice_get_within}
 use Rattle.lucid_tree.specs.Members.{In}
 use Rattle.lucid_tree.proofs.Members.{contained, in_all, in_either, in_left, in_map, in_right, stands_at}
 use Rattle.lucid_equations.specs.declared.table.Table.{Table}
+use Rattle.lucid_cert_rules.proofs.Reaching.{same_is_one}
 use Rattle.lucid_cert_rules.specs.Certificates.{PlainJudgment}
 use Rattle.lucid_cert_rules.specs.Cells.{asked_at, is_among, same_cell}
 use Rattle.lucid_cert_rules.specs.NeedLaws.{IsAskedBy, NeedsAreReached}
@@ -30,7 +31,7 @@ use Rattle.lucid_show_drawing.specs.Laws.{IsDemanded, IsTest, Uses, WhatIsDemand
 use Rattle.lucid_show_drawing.specs.Looked.{AreTests, all_tests, box_at}
 use Rattle.lucid_show_drawing.specs.Shown.{IsAsked, asks_nothing, numbers, test_entries, test_entry, told_whole}
 use Rattle.lucid_show_drawing.proofs.LookedAt.{box_none, box_some, flat_in, in_flat}
-use Rattle.lucid_show_drawing.proofs.Places.{cell_same, is_among-push}
+use Rattle.lucid_show_drawing.proofs.Places.{is_among-push}
 
 -- lines that wait, by the judgments that ask
 asked_in : (d : ℕ) (found : List ℕ) (l : Line) → In l (lines_at d found) → In l.asked found
@@ -82,7 +83,7 @@ module _ (T : Table) (js : List PlainJudgment) (law : NeedsAreReached) where
   lift l b told es is c (inl among) =
       elim (or_cases (is_among told c) (same_cell c b) (sym (is_among-push told c b) ∙ among)) [
         | inl before ↦ inl before
-        | inr same ↦ inr (l.asked, inl refl, is ∙ ap (λ (d : Cell). Some d) (sym (cell_same c b same)))
+        | inr same ↦ inr (l.asked, inl refl, is ∙ ap (λ (d : Cell). Some d) (sym (same_is_one c b same)))
       ]
   lift l b told es is c (inr t) = inr (t.0, inr t.1, t.2)
 

@@ -8,13 +8,13 @@ use Rattle.lucid_cert_rules.specs.Cells.{asked_at, is_among, same_cell}
 use Rattle.lucid_cert_rules.specs.Certificates.{PlainJudgment}
 use Rattle.lucid_cert_rules.specs.declared.cell.Cell.{Cell}
 use Rattle.lucid_cert_rules.specs.declared.cell.Cell.TheVariants.{Named, Element}
+use Rattle.lucid_cert_rules.proofs.Reaching.{same_is_one}
 use Rattle.lucid_show_outline.specs.Laws.{UsesAreEarlier}
 use Rattle.lucid_show_outline.specs.Searches.{tests}
 use Rattle.lucid_show_outline.specs.Views.{View}
 use Rattle.lucid_show_drawing.specs.Laws.{Looks, LooksAt, itself, tested, through}
 use Rattle.lucid_show_drawing.specs.Looked.{box_at, box_for, boxes_at, looked, looked_at, looked_for, looked_through, once, others}
 use Rattle.lucid_show_drawing.proofs.Looking.{none_left, one_level}
-use Rattle.lucid_show_drawing.proofs.Places.{cell_same}
 
 -- what stands in one of the lists of a list stands in all together
 pub in_flat : {A B : Type 0} (f : A → List B) (xs : List A) (x : A) (y : B) → In x xs → In y (f x) → In y (flat_map f xs)
@@ -113,7 +113,7 @@ looked_whole v earlier (suc n) (through {i = i} {u = u} {k = k} {j = j} asks the
 pub among_is_in : (cs : List Cell) (c : Cell) → is_among cs c ≡ true → In c cs
 among_is_in [] c h = absurd (cc)
 among_is_in (d ∷ cs) c h =
-    elim (or_cases (same_cell c d) (is_among cs c) h) [ inl same ↦ inl (cell_same c d same) | inr later ↦ inr (among_is_in cs c later) ]
+    elim (or_cases (same_cell c d) (is_among cs c) h) [ inl same ↦ inl (same_is_one c d same) | inr later ↦ inr (among_is_in cs c later) ]
 
 -- cells each once are the same cells
 once_by : (b : Bool) (had : List Cell) (c : Cell) (cs : List Cell) (d : Cell) → In d (if b then once had cs else once (had ++ c ∷ []) cs)

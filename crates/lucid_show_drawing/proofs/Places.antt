@@ -39,13 +39,6 @@ no_cell (Named i) (Element l u) h = refl
 no_cell (Element k t) (Named j) h = refl
 no_cell (Element k t) (Element l u) h = ap (λ b. b && (u == t)) (swapped k l) ∙ ap (λ b. (k == l) && b) (swapped t u) ∙ h
 
-pub cell_same : (c d : Cell) → same_cell c d ≡ true → c ≡ d
-cell_same (Named i) (Named j) h = ap Named (eqb-true i j h)
-cell_same (Named i) (Element l u) h = absurd (cc)
-cell_same (Element k t) (Named j) h = absurd (cc)
-cell_same (Element k t) (Element l u) h =
-    let both = and_parts (k == l) (t == u) h in ap (λ q. Element q t) (eqb-true k l both.0) ∙ ap (λ q. Element l q) (eqb-true t u both.1)
-
 pub same_itself : (c : Cell) → same_cell c c ≡ true
 same_itself (Named i) = eq-eqb i i refl
 same_itself (Element k t) = ap (λ b. b && (t == t)) (eq-eqb k k refl) ∙ eq-eqb t t refl
