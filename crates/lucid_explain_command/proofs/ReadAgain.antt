@@ -28,9 +28,3 @@ adds_both files xs ys a b c x y =
 
 pub adds_of : (files : Files) (xs ys : List (Text × Text)) (a b : List (Text × List ℕ)) → xs ≡ ys → Adds files xs a b → Adds files ys a b
 adds_of files xs ys a b e t = let P : List (Text × Text) → Type 0 = λ z. Adds files z a b in subst P e t
-
--- what is added behind nothing is all
-pub adds_all : (files : Files) (xs : List (Text × Text)) (a b : List (Text × List ℕ)) → a ≡ [] → Adds files xs a b → AreReadAgain files xs b
-adds_all files xs a b e x =
-    let P : List (Text × List ℕ) → Type 0 = λ z. AreReadAgain files xs z in
-    subst P (sym (x.2 ∙ ap (λ (z : List (Text × List ℕ)). z ++ x.0) e)) x.1
