@@ -1,7 +1,8 @@
 //! How names are hashed.
 //!
 //! Whoever writes a source picks its names, and could pick many with one hash if he knew how they are hashed: each look into a table of them
-//! would go past all. So each tree has a hash of its own, which begins with all its names.
+//! would go past all. So each tree has a hash of its own, which begins with all its names. That raises the price of such names and is no proof
+//! against them: the start is no secret, and the hash can be run backwards. So a last name can be computed that undoes the start.
 
 use lucid_lists::Stack;
 use lucid_tree::{Def, DefKind, Parts, Shape, Tree};
