@@ -164,6 +164,7 @@ is_factor a =
 abbrev pub is_shift : (read : List ℕ) → Bool
 is_shift read = same_bytes read (codes "first") || same_bytes read (codes "next")
 
+-- one of those, or one that takes a list: they too stand before what they take
 abbrev pub is_prefix : (read : List ℕ) → Bool
 is_prefix read = is_shift read || same_bytes read (codes "hd") || same_bytes read (codes "tl") || same_bytes read (codes "length")
 

@@ -313,6 +313,7 @@ fn is_shift(read: &[u8]) -> bool
     read == b"first".as_slice() || read == b"next".as_slice()
 }
 
+// Whether this is one of those, or one that takes a list: they too stand before what they take.
 fn is_prefix(read: &[u8]) -> bool
     ensures { result ≡ is_prefix read.now }
 {
