@@ -3,16 +3,18 @@ use Rattle.std.specs.Prelude.{ℕ, zero, suc, List, [], take, drop, slice_range,
 use Rattle.std.specs.List.{prefix_len, slice_get}
 use Rattle.lucid_scan.specs.declared.token.Token.{Token}
 use Rattle.lucid_explain_places.specs.declared.around.Around.{Around}
+use Rattle.lucid_explain_places.specs.Positions.{last_line}
 
--- the texts of the three, and what stands between the first of them and the place: blanks and comments
+-- the texts of the three; what stands before the first of them in its line, and that itself; and what stands between that and the place: blanks and comments
 pub record PlainAround : Type 0 where
+  pub line : List ℕ
   pub before : List ℕ
   pub gap : List ℕ
   pub read : List ℕ
   pub after : List ℕ
 
 abbrev pub plain_around : Around → PlainAround
-plain_around a = record { before = a.before.now; gap = a.gap.now; read = a.read.now; after = a.after.now }
+plain_around a = record { line = a.line.now; before = a.before.now; gap = a.gap.now; read = a.read.now; after = a.after.now }
 
 -- how many tokens begin before the place
 abbrev pub count_before : List Token → (at : ℕ) → ℕ
@@ -36,9 +38,14 @@ last_of tokens (suc n) = slice_get tokens n
 abbrev pub gap_behind : (source : List ℕ) → (at : ℕ) → Option Token → List ℕ
 gap_behind source at last = drop (min (end_of last) at) (take at source)
 
+-- what stands in the line of a token before the place, up to its end
+abbrev pub line_to : (source : List ℕ) → (at : ℕ) → Option Token → List ℕ
+line_to source at last = last_line (take (min (end_of last) at) source)
+
 -- what stands about a place before which so many tokens begin
 abbrev pub around_of : (source : List ℕ) → List Token → (at count : ℕ) → PlainAround
 around_of source tokens at count = record {
+  line = line_to source at (last_of tokens count);
   before = text_of source (last_of tokens count);
   gap = gap_behind source at (last_of tokens count);
   read = text_of source (slice_get tokens count);

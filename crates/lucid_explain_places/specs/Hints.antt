@@ -1,7 +1,7 @@
 -- What was probably meant at a place where the tokens go wrong: by the tokens about it, and by those that may stand there. Of the hints the first
 -- that fits is said. Those marked `unfoldable` are so that proofs of the others see their names alone.
-use Rattle.std.specs.Prelude.{ℕ, List, [], ◌∷◌, length, map, take, Bool, true, false, not, ◌&&◌, ◌||◌, ◌==◌, codes, if◌then◌else◌, Option, None, Some}
-use Rattle.std.specs.List.{list_any, prefix_len}
+use Rattle.std.specs.Prelude.{ℕ, List, [], ◌∷◌, length, map, take, Bool, true, false, not, ◌&&◌, ◌||◌, ◌==◌, codes, nat_eq, if◌then◌else◌, Option, None, Some}
+use Rattle.std.specs.List.{list_any, prefix_len, starts_with}
 use Rattle.std.specs.Char.{is_ascii_alphabetic, is_ascii_digit, to_ascii_lowercase}
 use Rattle.lucid_value.specs.Plain.{same_bytes}
 use Rattle.lucid_value.specs.Names.{is_reserved}
@@ -393,9 +393,13 @@ continues read those = is_elif read && has (codes "else") those
 abbrev pub is_dashed : PlainAround → List Candidate → Bool
 is_dashed a those = same_bytes a.read (codes "-") && (has (codes "end") those || same_bytes a.after (codes "-"))
 
+-- such a comment in the line of the token before
+abbrev pub is_in_remark : PlainAround → Bool
+is_in_remark a = starts_with nat_eq a.line (codes "--")
+
 -- how other languages begin a comment
 abbrev pub is_remark : PlainAround → List Candidate → Bool
-is_remark a those = are_both a (codes "(") (codes "*") || is_dashed a those
+is_remark a those = are_both a (codes "(") (codes "*") || is_dashed a those || is_in_remark a
 
 abbrev pub chains : (read : List ℕ) → List Candidate → Bool
 chains read those = is_comparison read && has (codes "+") those

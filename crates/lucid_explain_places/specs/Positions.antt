@@ -1,5 +1,5 @@
 -- Lines and columns. A line ends at a byte 10; a byte 13 before that is part of the line. Both are counted from 1, and columns in bytes.
-use Rattle.std.specs.Prelude.{◌≡◌, ℕ, ◌+◌, ◌≤◌, List, ◌++◌, length, take, codes, decimal, Bool, not, ◌==◌}
+use Rattle.std.specs.Prelude.{◌≡◌, ℕ, ◌+◌, ◌-◌, ◌≤◌, List, ◌++◌, length, take, drop, codes, decimal, Bool, not, ◌==◌}
 use Rattle.std.specs.List.{count_by, suffix_len}
 
 abbrev pub ends_line : ℕ → Bool
@@ -16,6 +16,10 @@ line_of source at = count_by ends_line (take at source) + 1
 -- The column of a place: one more than the bytes before it that come after the last of these.
 abbrev pub column_of : List ℕ → (at : ℕ) → ℕ
 column_of source at = suffix_len stands_in_line (take at source) + 1
+
+-- the bytes of a line that stand at the end
+abbrev pub last_line : (before : List ℕ) → List ℕ
+last_line before = drop (length before - suffix_len stands_in_line before) before
 
 -- No two places of a source, its end with them, have one line and one column.
 abbrev pub PositionsTellPlaces : Type 0

@@ -2,14 +2,17 @@
 ghost use Rattle.std.specs.Prelude.{◌≡◌, ◌≤◌, length, slice_range};
 ghost use Rattle.std.specs.List.{slice_get};
 ghost use Rattle.lucid_scan.specs.Tokens.{Tokens};
-ghost use Rattle.lucid_explain_places.specs.Around.{plain_around, count_before, text_of, end_of, last_of, gap_behind, around_of, around_at};
+ghost use Rattle.lucid_explain_places.specs.Around.{plain_around, count_before, text_of, end_of, last_of, gap_behind, line_to, around_of, around_at};
 
+use crate::position::last_line;
 use lucid_scan::Token;
 use lucid_scan::laws::tokens_are_in_order;
 
 /// What stands about a place; a token is empty where there is none.
 #[derive(Clone, Copy)]
 pub struct Around<'a> {
+    /// What stands in the line of the token before the place, up to its end.
+    pub line: &'a [u8],
     /// The token before the place.
     pub before: &'a [u8],
     /// What stands between that and the place: blanks and comments.
@@ -91,6 +94,14 @@ fn gap_behind(source: &[u8], at: usize, last: Option<Token>) -> &[u8]
     &source[..at][end_of(last).min(at)..]
 }
 
+// What stands in the line of a token before the place, up to its end.
+fn line_to(source: &[u8], at: usize, last: Option<Token>) -> &[u8]
+    requires { at ≤ length source.now }
+    ensures { result.now ≡ line_to source.entry.now at last }
+{
+    last_line(&source[..end_of(last).min(at)])
+}
+
 // What stands about the place, before which so many tokens begin.
 fn around_of<'a>(source: &'a [u8], tokens: &[Token], at: u32, count: usize) -> Around<'a>
     requires within { at ≤ length source.now }
@@ -99,6 +110,7 @@ fn around_of<'a>(source: &'a [u8], tokens: &[Token], at: u32, count: usize) -> A
     ensures { plain_around result ≡ around_of source.entry.now tokens.now at count }
 {
     Around {
+        line: line_to(source, at as usize, last_of(tokens, count)),
         before: text_before(source, tokens, count),
         gap: gap_behind(source, at as usize, last_of(tokens, count)),
         read: text_of(source, tokens, count),

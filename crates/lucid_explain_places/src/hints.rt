@@ -2,7 +2,7 @@
 ghost use Rattle.std.specs.Prelude.{◌≡◌, ◌==◌, ℕ, ◌||◌, IfOk};
 ghost use Rattle.std.specs.Char.{is_ascii_alphabetic, is_ascii_digit};
 ghost use Rattle.lucid_explain_places.specs.Around.{plain_around};
-ghost use Rattle.lucid_explain_places.specs.Hints.{has, is_open, is_whole, is_closing, is_comparison, is_elif, is_step, is_part_word, lacks_operand, is_capital, begins_with, is_product, breaks_line, has_return, has_comment, is_swallowed, is_behind_parameter, open_hint, whole_hint, alone_hint, equals_hint, line_hint, is_argument, definition_hint, is_shift, is_prefix, ends_subject, is_postfix, is_values, is_ended, is_defining, is_asked, is_factor, missing_hint, part_hint, lacking_hint, is_inner, inner_hint, is_parted, is_listed, is_unopened, unopened_hint, last_hint, ending_hint, closing_hint, end_hint, head_hint, is_parameter, parameter_hint, is_between, is_infix, first_hint, is_remnant, is_cut, place_hint, is_previous, is_moment, foreign_hint, is_loop, is_followed, spoken_hint, behind_hint, reads, is_behind_block, are_both, arrow_hint, pair_hint, continues, is_dashed, is_remark, chains, is_astray, astray_hint, word_hint, operator_hint, is_frozen, frozen_hint, is_cut_off, token_hint, hint};
+ghost use Rattle.lucid_explain_places.specs.Hints.{has, is_open, is_whole, is_closing, is_comparison, is_elif, is_step, is_part_word, lacks_operand, is_capital, begins_with, is_product, breaks_line, has_return, has_comment, is_swallowed, is_behind_parameter, open_hint, whole_hint, alone_hint, equals_hint, line_hint, is_argument, definition_hint, is_shift, is_prefix, ends_subject, is_postfix, is_values, is_ended, is_defining, is_asked, is_factor, missing_hint, part_hint, lacking_hint, is_inner, inner_hint, is_parted, is_listed, is_unopened, unopened_hint, last_hint, ending_hint, closing_hint, end_hint, head_hint, is_parameter, parameter_hint, is_between, is_infix, first_hint, is_remnant, is_cut, place_hint, is_previous, is_moment, foreign_hint, is_loop, is_followed, spoken_hint, behind_hint, reads, is_behind_block, are_both, arrow_hint, pair_hint, continues, is_dashed, is_in_remark, is_remark, chains, is_astray, astray_hint, word_hint, operator_hint, is_frozen, frozen_hint, is_cut_off, token_hint, hint};
 
 use crate::around::Around;
 use crate::candidates::Candidate;
@@ -744,11 +744,18 @@ fn is_dashed(around: &Around<'_>, those: &[Candidate]) -> bool
     around.read == b"-".as_slice() && (has(b"end", those) || around.after == b"-".as_slice())
 }
 
+// Whether such a comment begins the line of the token before.
+fn is_in_remark(around: &Around<'_>) -> bool
+    ensures { result ≡ is_in_remark (plain_around around.now) }
+{
+    around.line.starts_with(b"--")
+}
+
 // Whether other languages begin a comment so.
 fn is_remark(around: &Around<'_>, those: &[Candidate]) -> bool
     ensures { result ≡ is_remark (plain_around around.now) those.now }
 {
-    are_both(around, b"(", b"*") || is_dashed(around, those)
+    are_both(around, b"(", b"*") || is_dashed(around, those) || is_in_remark(around)
 }
 
 // Whether this compares what is compared already.

@@ -4,7 +4,7 @@
 pub use crate::around::Around;
 pub use crate::candidates::{Candidate, standing};
 pub use crate::hints::is_capital;
-pub use crate::position::{Position, len_of_line, position_of};
+pub use crate::position::{Position, last_line, position_of};
 pub use crate::shown::{put_place, put_shown};
 pub use crate::syntax::explain_syntax;
 pub use crate::texts::{put_number, put_where};

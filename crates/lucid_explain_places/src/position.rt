@@ -2,7 +2,7 @@
 ghost use Rattle.std.specs.Prelude.{◌≡◌, ◌+◌, ◌≤◌, length};
 ghost use Rattle.std.specs.List.{count_by, suffix_len};
 ghost use Rattle.lucid_scan.specs.Refusals.{most_source_bytes};
-ghost use Rattle.lucid_explain_places.specs.Positions.{ends_line, stands_in_line, line_of, column_of};
+ghost use Rattle.lucid_explain_places.specs.Positions.{ends_line, stands_in_line, line_of, column_of, last_line};
 
 /// Where a place is, by its line and its column in bytes, both from 1.
 #[derive(Clone, Copy, Debug, PartialEq, Eq)]
@@ -18,8 +18,8 @@ fn count_ends(bytes: &[u8]) -> usize
     bytes.iter().filter(|byte| **byte == b'\n').count()
 }
 
-/// How many bytes come after the last line end.
-pub fn len_of_line(bytes: &[u8]) -> usize
+// How many bytes come after the last line end.
+fn len_of_line(bytes: &[u8]) -> usize
     ensures value { result ≡ suffix_len stands_in_line bytes.now }
     ensures within { result ≤ length bytes.now }
 {
@@ -28,6 +28,13 @@ pub fn len_of_line(bytes: &[u8]) -> usize
         .rev()
         .take_while(|byte| **byte != b'\n')
         .count()
+}
+
+/// The bytes of a line that stand at the end.
+pub fn last_line(before: &[u8]) -> &[u8]
+    ensures { result.now ≡ last_line before.entry.now }
+{
+    &before[before.len() - len_of_line(before)..]
 }
 
 /// The line and the column of a place in a source, or of its end.

@@ -6,7 +6,7 @@ use Rattle.lucid_value.specs.Names.{is_name_byte}
 use Rattle.lucid_value.specs.Plain.{same_bytes}
 use Rattle.lucid_scan.specs.declared.refusal.ScanRefusal.{ScanRefusal}
 use Rattle.lucid_scan.specs.declared.refusal.ScanRefusal.TheVariants as refusal
-use Rattle.lucid_explain_places.specs.Positions.{stands_in_line}
+use Rattle.lucid_explain_places.specs.Positions.{last_line}
 use Rattle.lucid_explain_places.specs.Shown.{place_text}
 use Rattle.lucid_explain_source.specs.Characters.{begins, differs_advice, character_advice}
 
@@ -61,12 +61,9 @@ ascii_advice before b = if ends_name before then behind_advice b else byte_advic
 abbrev pub is_real : (rest : List ℕ) → Bool
 is_real rest = nat_lt 1 (length rest) && slice_index rest 0 == 46 && is_ascii_digit (slice_index rest 1)
 
--- the bytes of a name that stand at the end, and those of a line
+-- the bytes of a name that stand at the end
 abbrev pub last_name : (before : List ℕ) → List ℕ
 last_name before = drop (length before - suffix_len is_name_byte before) before
-
-abbrev pub last_line : (before : List ℕ) → List ℕ
-last_line before = drop (length before - suffix_len stands_in_line before) before
 
 -- a number stands alone in the line: digits up to its end
 abbrev pub is_numbered : (line : List ℕ) → Bool

@@ -4,11 +4,11 @@ ghost use Rattle.std.specs.Char.{is_ascii_digit};
 ghost use Rattle.std.specs.List.{prefix_len, suffix_len};
 ghost use Rattle.lucid_value.specs.Names.{is_name_byte};
 ghost use Rattle.lucid_scan.specs.Refusals.{Refuses, most_source_bytes};
-ghost use Rattle.lucid_explain_source.specs.Advice.{byte_advice, ends_name, behind_advice, ascii_advice, is_real, last_name, last_line, is_numbered, is_loop, is_header, is_range, point_advice, colon_advice, bracket_advice, bad_advice, open_advice, big_advice, long_advice, scan_text};
+ghost use Rattle.lucid_explain_source.specs.Advice.{byte_advice, ends_name, behind_advice, ascii_advice, is_real, last_name, is_numbered, is_loop, is_header, is_range, point_advice, colon_advice, bracket_advice, bad_advice, open_advice, big_advice, long_advice, scan_text};
 ghost use Rattle.lucid_explain_places.specs.Shown.{place_text};
 
 use crate::characters::{DIFFERS, begins, character_advice};
-use lucid_explain_places::{len_of_line, put_place};
+use lucid_explain_places::{last_line, put_place};
 use lucid_scan::ScanRefusal;
 use lucid_value::is_name_byte;
 use std::alloc::AllocError;
@@ -110,13 +110,6 @@ fn last_name(before: &[u8]) -> &[u8]
     ensures { result.now ≡ last_name before.entry.now }
 {
     &before[before.len() - len_of_last(before)..]
-}
-
-// The bytes of a line that stand at the end.
-fn last_line(before: &[u8]) -> &[u8]
-    ensures { result.now ≡ last_line before.entry.now }
-{
-    &before[before.len() - len_of_line(before)..]
 }
 
 // How many digits stand at the beginning.

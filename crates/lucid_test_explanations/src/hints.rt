@@ -609,7 +609,17 @@ static CHARACTERS: [Ends; 30] = [
 ];
 
 // Hints at slips of the pen, and at what is written so elsewhere.
-static SLIPS: [Ends; 19] = [
+static SLIPS: [Ends; 21] = [
+    Ends {
+        source: b"-- a clock\nn where n = 1; end",
+        begin: "syntax at 5\n",
+        end: ".\nA comment begins with `//`.\n",
+    },
+    Ends {
+        source: b"-- clock\nn where n = 1; end",
+        begin: "syntax at 9\n",
+        end: ".\nA comment begins with `//`.\n",
+    },
     Ends {
         source: b"n where n = (1 + 2)); end",
         begin: "syntax at 19\n",
