@@ -1,5 +1,5 @@
 -- What a call that explains does: what the command does with the same words, with more behind its report.
-use Rattle.std.specs.Prelude.{◌≡◌, ℕ, Bool, true, false, List, codes, Result, Ok, Err, ◌⊎◌, Vec}
+use Rattle.std.specs.Prelude.{◌≡◌, ℕ, Bool, true, false, List, length, codes, ◌==◌, Result, Ok, Err, ◌⊎◌, Vec}
 use Rattle.std.specs.Global.{Global}
 use Rattle.std.specs.declared.alloc.AllocError.{AllocError}
 use Rattle.clap.specs.Words.{Text}
@@ -18,6 +18,7 @@ use Rattle.lucid_report.specs.Telling.{WritesWhole, WritesLine}
 use Rattle.lucid_explain_report.specs.Files.{Files}
 use Rattle.lucid_explain_report.specs.Stops.{stop_text}
 use Rattle.lucid_explain_report.specs.Said.{IsExplanation}
+use Rattle.lucid_explain_command.specs.Help.{help_text}
 use Rattle.lucid_explain_command.specs.Prompted.{IsPrompt}
 use Rattle.lucid_explain_command.specs.Keeping.{IsRead}
 use Rattle.lucid_explain_command.specs.Noting.{Seen, Notes}
@@ -55,9 +56,14 @@ wants_memory (stop.TooLarge stream name) = false
 wants_memory stop.NoMemory = false
 wants_memory _ = true
 
--- What explains a stop is reported; where no memory is wanted, what is said of it alone.
+-- What explains a stop is reported; of a call without words, its help.
+abbrev pub ReportsExplanation : (is_bare : Bool) → (files : Files) → (words : List Text) → (source : List ℕ) → Stop → (before after : Told) → Type 0
+ReportsExplanation true files words source why before after = Writes help_text before after
+ReportsExplanation false files words source why before after = WritesText (IsExplanation files words source why) before after
+
+-- So it is; or where no memory is wanted, what is said of the stop alone.
 abbrev pub ReportsStop : (wants : Bool) → (files : Files) → (words : List Text) → (source : List ℕ) → Stop → (before after : Told) → Type 0
-ReportsStop true files words source why before after = WritesText (IsExplanation files words source why) before after
+ReportsStop true files words source why before after = ReportsExplanation (length words == 0) files words source why before after
 ReportsStop false files words source why before after = Writes (stop_text why) before after
 
 -- Of a call that is done nothing is reported.

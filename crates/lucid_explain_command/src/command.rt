@@ -1,5 +1,5 @@
 //! The command, with what explains how it ended.
-ghost use Rattle.std.specs.Prelude.{◌≡◌, drop, map};
+ghost use Rattle.std.specs.Prelude.{◌≡◌, ◌==◌, drop, length, map};
 ghost use Rattle.std.specs.String.{string_bytes};
 ghost use Rattle.lucid_words.specs.Asked.{words_asked};
 ghost use Rattle.lucid_top.specs.Call.{call};
@@ -10,10 +10,11 @@ ghost use Rattle.lucid_explain_command.specs.Keeping.{plain_kept, remembered};
 ghost use Rattle.lucid_explain_command.specs.Noting.{plain_noted};
 ghost use Rattle.lucid_explain_command.specs.Behind.{has_count, SaysCount};
 ghost use Rattle.lucid_explain_command.specs.Errors.{SaysError};
-ghost use Rattle.lucid_explain_command.specs.Explained.{unsaid_text, or_unsaid, Writes, WritesText, Prompts, wants_memory, cut_status, ReportsStop, ReportsCause, Reports, ReportsCount, ReportsBehind, IsExplained};
+ghost use Rattle.lucid_explain_command.specs.Explained.{unsaid_text, or_unsaid, Writes, WritesText, Prompts, wants_memory, cut_status, ReportsExplanation, ReportsStop, ReportsCause, Reports, ReportsCount, ReportsBehind, IsExplained};
 
 use crate::behind::{Behind, behind_of, has_count, text_of_count};
 use crate::errors::text_of_error;
+use crate::help::HELP;
 use crate::prompt::text_of_prompt;
 use crate::remembering::Remembering;
 use crate::watched::Watched;
@@ -96,7 +97,26 @@ fn report_alone<E: Sink>(report: &mut E, said: &[u8])
     let _ = write_line(report, said);
 }
 
-// Reports what explains the stop, or that there was no memory for it.
+// Reports what explains the stop, or that there was no memory for it; of a call without words, its help.
+fn report_explanation<E: Sink, F: Outlook>(
+    alloc: Global,
+    called: &Called<'_>,
+    stop: &Stop,
+    outlook: &F,
+    report: &mut E,
+)
+    ensures { ReportsExplanation (length called.now.words.now == 0) (F.files outlook.now) (map string_bytes called.now.words.now) called.now.source.now stop.now
+        (told E.written E.faults E.late report.old) (told E.written E.faults E.late report.new) }
+{
+    if called.words.is_empty() {
+        report_alone(report, HELP);
+    } else {
+        let text = explain_stop(alloc, called.words, called.source, stop, outlook);
+        report_text(report, text);
+    }
+}
+
+// Reports what explains the stop, or what is said of it alone.
 fn report_stop<E: Sink, F: Outlook>(
     alloc: Global,
     called: &Called<'_>,
@@ -108,8 +128,7 @@ fn report_stop<E: Sink, F: Outlook>(
         (told E.written E.faults E.late report.old) (told E.written E.faults E.late report.new) }
 {
     if wants_memory(stop) {
-        let text = explain_stop(alloc, called.words, called.source, stop, outlook);
-        report_text(report, text);
+        report_explanation(alloc, called, stop, outlook, report);
     } else {
         report_alone(report, stop_text(stop));
     }

@@ -282,7 +282,13 @@ static INPUTS: [Row; 9] = [
 ];
 
 // Words that are refused.
-static WORDS: [Row; 10] = [
+static WORDS: [Row; 11] = [
+    Row {
+        words: "",
+        source: "1",
+        status: Status::Usage,
+        report: "usage: lucid [--count N] [--depth N] [--policy keep|none|age|last] [--age K] [--room N] [--stats] [--print] [--columns LIST] [--cycles] [--why T] [--check FILE] [--flat] [--from-flat] PROGRAM [NAME=FILE]... | lucid --make N\nlucid_explain runs a pLucid program as lucid does, and explains what is wrong with it.\nusage: lucid_explain [options] PROGRAM [NAME=FILE]... | lucid_explain [options] --make N\nPROGRAM is the name of a file with a program, as `n where n = 0 fby n + 1; end`.\nNAME=FILE gives the lines of a file as the values of an input of this name.\n--count N writes N lines at most, from 1 to 1000000: 20 where it isn't given.\n--depth N is the depth limit, from 1 to 1000000: 100000 where it isn't given.\nThe other options are those of lucid: `man lucid` has them, and LANGUAGE.md the language.\nTUTORIAL.md teaches it from the beginning. ERRORS.md has all reports.\n",
+    },
     Row {
         words: "p --print --cycles",
         source: "1",
