@@ -65,9 +65,9 @@ is_real rest = nat_lt 1 (length rest) && slice_index rest 0 == 46 && is_ascii_di
 abbrev pub last_name : (before : List ℕ) → List ℕ
 last_name before = drop (length before - suffix_len is_name_byte before) before
 
--- a number stands alone in the line: digits up to its end
-abbrev pub is_numbered : (line : List ℕ) → Bool
-is_numbered line = nat_lt 0 (length line) && prefix_len is_ascii_digit line == length line
+-- digits alone, one at least: as a line before a place, the number of an exercise
+abbrev pub is_numbered : (text : List ℕ) → Bool
+is_numbered text = nat_lt 0 (length text) && prefix_len is_ascii_digit text == length text
 
 -- how other languages begin a loop
 abbrev pub is_loop : (line : List ℕ) → Bool
@@ -81,11 +81,23 @@ is_header line = begins line (codes "node ") || begins line (codes "function ") 
 abbrev pub is_range : (rest : List ℕ) → Bool
 is_range rest = begins rest (codes "[") && begins (drop (prefix_len is_ascii_digit (drop 1 rest)) (drop 1 rest)) (codes "..")
 
+-- a number, and two points behind it, as in `1..10`
+abbrev pub is_span : (before rest : List ℕ) → Bool
+is_span before rest = begins rest (codes "..") && is_numbered (last_name before)
+
+abbrev pub range_advice : List ℕ
+range_advice = codes "There are no ranges: `n = 0 fby n + 1;` is 0, 1, 2, .., and --count N says how many are written.\n"
+
+-- how other languages write that two values differ
+abbrev pub is_unequal : (rest : List ℕ) → Bool
+is_unequal rest = begins rest (codes "/=") || begins rest (codes "!=") || begins rest (codes "~=")
+
 -- of a `.`, by what stands before it
 abbrev pub point_advice : (before rest : List ℕ) → List ℕ
 point_advice before rest =
     if is_real rest then codes "There are no real numbers: write integers.\n"
     else if begins rest (codes ".lucid") then codes "A program names no files: these stand in the command.\n"
+    else if is_span before rest then range_advice
     else if is_numbered (last_line before) then codes "Is this the number of an exercise? It is no part of the program: leave it out.\n"
     else ascii_advice before 46
 
@@ -100,7 +112,7 @@ colon_advice before =
 -- of a byte of ASCII, by what stands before it and what begins with it
 abbrev pub bracket_advice : (before rest : List ℕ) → List ℕ
 bracket_advice before rest =
-    if is_range rest then codes "There are no ranges: `n = 0 fby n + 1;` is 0, 1, 2, .., and --count N says how many are written.\n"
+    if is_range rest then range_advice
     else if begins rest (codes "{-") then codes "A comment begins with `//`.\n"
     else ascii_advice before (slice_index rest 0)
 
@@ -108,7 +120,7 @@ bracket_advice before rest =
 abbrev pub bad_advice : (before rest : List ℕ) → List ℕ
 bad_advice before rest =
     if nat_lt 127 (slice_index rest 0) then character_advice rest
-    else if begins rest (codes "/=") then differs_advice
+    else if is_unequal rest then differs_advice
     else if slice_index rest 0 == 46 then point_advice before rest
     else if slice_index rest 0 == 58 then colon_advice before
     else bracket_advice before rest

@@ -4,7 +4,7 @@ ghost use Rattle.std.specs.Char.{is_ascii_digit};
 ghost use Rattle.std.specs.List.{prefix_len, suffix_len};
 ghost use Rattle.lucid_value.specs.Names.{is_name_byte};
 ghost use Rattle.lucid_scan.specs.Refusals.{Refuses, most_source_bytes};
-ghost use Rattle.lucid_explain_source.specs.Advice.{byte_advice, ends_name, behind_advice, ascii_advice, is_real, last_name, is_numbered, is_loop, is_header, is_range, point_advice, colon_advice, bracket_advice, bad_advice, open_advice, big_advice, long_advice, scan_text};
+ghost use Rattle.lucid_explain_source.specs.Advice.{byte_advice, ends_name, behind_advice, ascii_advice, is_real, last_name, is_numbered, is_loop, is_header, is_range, is_span, range_advice, is_unequal, point_advice, colon_advice, bracket_advice, bad_advice, open_advice, big_advice, long_advice, scan_text};
 ghost use Rattle.lucid_explain_places.specs.Shown.{place_text};
 
 use crate::characters::{DIFFERS, begins, character_advice};
@@ -120,11 +120,11 @@ fn len_of_digits(line: &[u8]) -> usize
     line.iter().take_while(|byte| byte.is_ascii_digit()).count()
 }
 
-// Whether a number stands alone in the line.
-fn is_numbered(line: &[u8]) -> bool
-    ensures { result ≡ is_numbered line.now }
+// Whether these are digits alone, one at least.
+fn is_numbered(text: &[u8]) -> bool
+    ensures { result ≡ is_numbered text.now }
 {
-    !line.is_empty() && len_of_digits(line) == line.len()
+    !text.is_empty() && len_of_digits(text) == text.len()
 }
 
 // Whether other languages begin a loop so.
@@ -150,6 +150,27 @@ fn is_range(rest: &[u8]) -> bool
     begins(rest, b"[") && begins(&inner[len_of_digits(inner)..], b"..")
 }
 
+// Whether this is a number, and two points behind it, as in `1..10`.
+fn is_span(before: &[u8], rest: &[u8]) -> bool
+    ensures { result ≡ is_span before.now rest.now }
+{
+    begins(rest, b"..") && is_numbered(last_name(before))
+}
+
+// What is said of a range.
+fn range_advice() -> &'static [u8]
+    ensures { result.now ≡ range_advice }
+{
+    b"There are no ranges: `n = 0 fby n + 1;` is 0, 1, 2, .., and --count N says how many are written.\n"
+}
+
+// Whether other languages write so that two values differ.
+fn is_unequal(rest: &[u8]) -> bool
+    ensures { result ≡ is_unequal rest.now }
+{
+    begins(rest, b"/=") || begins(rest, b"!=") || begins(rest, b"~=")
+}
+
 // What is said of a `.`, by what stands before it.
 fn point_advice(before: &[u8], rest: &[u8]) -> &'static [u8]
     ensures { result.now ≡ point_advice before.now rest.now }
@@ -158,6 +179,8 @@ fn point_advice(before: &[u8], rest: &[u8]) -> &'static [u8]
         b"There are no real numbers: write integers.\n"
     } else if begins(rest, b".lucid") {
         b"A program names no files: these stand in the command.\n"
+    } else if is_span(before, rest) {
+        range_advice()
     } else if is_numbered(last_line(before)) {
         b"Is this the number of an exercise? It is no part of the program: leave it out.\n"
     } else {
@@ -186,7 +209,7 @@ fn bracket_advice(before: &[u8], rest: &[u8]) -> &'static [u8]
     ensures { result.now ≡ bracket_advice before.now rest.now }
 {
     if is_range(rest) {
-        b"There are no ranges: `n = 0 fby n + 1;` is 0, 1, 2, .., and --count N says how many are written.\n"
+        range_advice()
     } else if begins(rest, b"{-") {
         b"A comment begins with `//`.\n"
     } else {
@@ -202,7 +225,7 @@ fn bad_advice(before: &[u8], rest: &[u8]) -> &'static [u8]
     let byte = rest[0];
     if byte > 127 {
         character_advice(rest)
-    } else if begins(rest, b"/=") {
+    } else if is_unequal(rest) {
         DIFFERS
     } else if byte == b'.' {
         point_advice(before, rest)

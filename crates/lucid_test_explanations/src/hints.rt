@@ -718,7 +718,22 @@ static SLIPS: [Ends; 21] = [
 ];
 
 // The same of bytes that are no tokens.
-static SIGNS: [Ends; 12] = [
+static SIGNS: [Ends; 15] = [
+    Ends {
+        source: b"n ~= 3",
+        begin: "bad byte at 2\n",
+        end: "^\nWrite `ne`.\n",
+    },
+    Ends {
+        source: b"!false",
+        begin: "bad byte at 0\n",
+        end: "^\nWrite `ne` for what differs, and `not` before a truth.\n",
+    },
+    Ends {
+        source: b"1..10",
+        begin: "bad byte at 1\n",
+        end: "^\nThere are no ranges: `n = 0 fby n + 1;` is 0, 1, 2, .., and --count N says how many are written.\n",
+    },
     Ends {
         source: b"n\xc2\xb2",
         begin: "bad byte at 1\n",

@@ -61,7 +61,7 @@ static BYTES: [Row; 10] = [
         words: "p",
         source: "a != b",
         status: Status::Refused,
-        report: "bad byte at 2\np:1:3:\na != b\n  ^\nWrite `ne` for what differs, and `not` before a truth.\n",
+        report: "bad byte at 2\np:1:3:\na != b\n  ^\nWrite `ne`.\n",
     },
     Row {
         words: "p",
