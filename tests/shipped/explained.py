@@ -114,14 +114,14 @@ def an_error_is_traced(run):
 @case
 def the_first_error_is_traced(run):
     run.source("t where t = (hd 1) fby t; end")
-    said = "The value at time 0 is `error`.\nt at time 0 is `error`.\np:1:14:\nt where t = (hd 1) fby t; end\n" + " " * 13 + "^\nAt time 0 `hd` gets 1: it wants a list.\n"
+    said = "The value at time 0 is `error`.\nt at time 0 is `error`.\np:1:14:\nt where t = (hd 1) fby t; end\n" + " " * 13 + "^\nAt time 0 `hd` gets 1: it wants a list.\nThe first value of a stream n is `first n`.\n"
     run.explaining().lucid("p", "--count=3").must(lines("error", "error", "error"), 0, said)
 
 
 @case
 def an_error_of_a_piped_program_is_traced(run):
     os.mkfifo(run.path("pipe"))
-    said = "The value at time 0 is `error`.\nt at time 0 is `error`.\npipe:1:14:\nt where t = (hd 1) fby t; end\n" + " " * 13 + "^\nAt time 0 `hd` gets 1: it wants a list.\n"
+    said = "The value at time 0 is `error`.\nt at time 0 is `error`.\npipe:1:14:\nt where t = (hd 1) fby t; end\n" + " " * 13 + "^\nAt time 0 `hd` gets 1: it wants a list.\nThe first value of a stream n is `first n`.\n"
     ended = run.explaining().shell("printf 't where t = (hd 1) fby t; end' > pipe & exec \"$LUCID\" --count=1 pipe")
     ended.must(lines("error"), 0, said)
 

@@ -3,7 +3,7 @@ use Rattle.std.specs.Prelude.{ℕ, pos, negsuc, Bool, true, false, nat_eq, if◌
 use Rattle.lucid_value.specs.Plain.{PlainValue, int}
 use Rattle.lucid_ops.specs.Algebra.{algebra, is_error}
 use Rattle.lucid_ops.specs.declared.op.Op.{Op}
-use Rattle.lucid_ops.specs.declared.op.Op.TheVariants.{Add, Div, Mod, Pow, Head, Tail, Cons, Append, Join, Substr, Nth, MakeWord}
+use Rattle.lucid_ops.specs.declared.op.Op.TheVariants.{Add, Div, Mod, Pow, Head, Tail, Cons, Append, Join, Length, Substr, Nth, MakeWord}
 use Rattle.lucid_explain_errors.specs.declared.cause.Cause.{Cause}
 use Rattle.lucid_explain_errors.specs.declared.cause.Cause.TheVariants as cause
 use Rattle.lucid_explain_errors.specs.Wanted.{wanted_of, wanted_text, are_wanted}
@@ -50,10 +50,13 @@ cause_of op vs = if is_error (algebra op vs) then Some (cause_by op vs) else Non
 
 -- what may be meant, where the arguments aren't what the operator wants
 abbrev pub kinds_hint : Op → List ℕ
-kinds_hint Add = codes "Strings, as `red' and `blue', are joined by `^`, and lists by `<>`. \"red\" is a word, and words aren't joined.\n"
+kinds_hint Add = codes "Strings, as `red' and `blue', are joined by `^`, and lists by `<>`. \"red\" is a word, and words aren't joined. Each line of an input is a value, also a heading.\n"
 kinds_hint Join = codes "A string is written `red', and \"red\" is a word. Lists are joined by `<>`. A power is written `**`. The string of an integer or a word x is `mkstring x`.\n"
 kinds_hint Cons = codes "A list of two items is `1 :: 2 :: []`. An item with `fby` in it stands in parentheses.\n"
 kinds_hint Append = codes "What differs is written with `ne`, as in `n ne 3`.\n"
+kinds_hint Length = codes "\"red\" is a word, and no string: the string of a word x is `mkstring x`.\n"
+kinds_hint Substr = codes "\"red\" is a word, and no string: the string of a word x is `mkstring x`.\n"
+kinds_hint Head = codes "The first value of a stream n is `first n`.\n"
 kinds_hint _ = []
 
 -- what is said of it

@@ -27,7 +27,7 @@ form_text forms.Or = codes "it wants `true` or `false`. On both sides of it stan
 form_text forms.Whenever = codes "it wants `true` or `false` on its right side.\n"
 form_text forms.Asa = codes "it wants `true` or `false` on its right side. The value of n at time 5 is `n attime 5`.\n"
 form_text forms.Upon = codes "it wants `true` or `false` on its right side.\n"
-form_text forms.Attime = codes "it wants a time, from 0 to 9223372036854775807.\n"
+form_text forms.Attime = codes "it wants a time, from 0 to 9223372036854775807. The value of n one time before is `(0 fby n)`, which is 0 at first.\n"
 form_text forms.Atspace = codes "it wants a space, from 0 to 9223372036854775807.\n"
 form_text _ = codes "there is no later time or space.\n"
 

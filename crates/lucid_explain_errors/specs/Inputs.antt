@@ -44,7 +44,7 @@ has_comma line = list_any (λ b. b == 44) line
 
 -- of a comma (44): the line may have more values than one
 abbrev pub comma_text : (line : List ℕ) → List ℕ
-comma_text line = if has_comma line then codes "A line is one value: two columns stand in two files, or as lists, `[% 1 2 %]`, without commas.\n" else []
+comma_text line = if has_comma line then codes "A line is one value: there are no real numbers, and two columns stand in two files, or as lists, `[% 1 2 %]`, without commas.\n" else []
 
 -- a byte order mark in front (239, 187, 191), or else a comma
 abbrev pub mark_text : (line : List ℕ) → List ℕ

@@ -162,13 +162,16 @@ fn kinds_hint(op: Op) -> &'static [u8]
 {
     match op {
         Op::Add =>
-            b"Strings, as `red' and `blue', are joined by `^`, and lists by `<>`. \"red\" is a word, and words aren't joined.\n",
+            b"Strings, as `red' and `blue', are joined by `^`, and lists by `<>`. \"red\" is a word, and words aren't joined. Each line of an input is a value, also a heading.\n",
         Op::Join =>
             b"A string is written `red', and \"red\" is a word. Lists are joined by `<>`. A power is written `**`. The string of an integer or a word x is `mkstring x`.\n",
         Op::Cons => {
             b"A list of two items is `1 :: 2 :: []`. An item with `fby` in it stands in parentheses.\n"
         }
         Op::Append => b"What differs is written with `ne`, as in `n ne 3`.\n",
+        Op::Length | Op::Substr =>
+            b"\"red\" is a word, and no string: the string of a word x is `mkstring x`.\n",
+        Op::Head => b"The first value of a stream n is `first n`.\n",
         _ => b"",
     }
 }

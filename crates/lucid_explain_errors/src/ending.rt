@@ -38,7 +38,9 @@ fn form_text(form: Form) -> &'static [u8]
         Form::Asa => {
             b"it wants `true` or `false` on its right side. The value of n at time 5 is `n attime 5`.\n"
         }
-        Form::Attime => b"it wants a time, from 0 to 9223372036854775807.\n",
+        Form::Attime => {
+            b"it wants a time, from 0 to 9223372036854775807. The value of n one time before is `(0 fby n)`, which is 0 at first.\n"
+        }
         Form::Atspace => b"it wants a space, from 0 to 9223372036854775807.\n",
         _ => b"there is no later time or space.\n",
     }

@@ -97,7 +97,7 @@ fn comma_text(line: &[u8]) -> &'static [u8]
     ensures { result.now ≡ comma_text line.now }
 {
     if has_comma(line) {
-        b"A line is one value: two columns stand in two files, or as lists, `[% 1 2 %]`, without commas.\n"
+        b"A line is one value: there are no real numbers, and two columns stand in two files, or as lists, `[% 1 2 %]`, without commas.\n"
     } else {
         b""
     }

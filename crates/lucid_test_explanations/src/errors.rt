@@ -16,18 +16,24 @@ struct Row {
 // The nodes of the second and the fifth source are t, a, t, a, next, +, fby; those of the third 3, f(3), x, "b", *; of the fourth u, 1, atspace, 0, u, hd,
 // sby; of the ninth 3, 1, 2, if; of the tenth 1, 0, whenever; of the next 1, 2, 3, -, attime; of the fourteenth false, 3, or; of the next t, error, t, fby;
 // of the last three two operands, and then the operator.
-static ROWS: [Row; 18] = [
+static ROWS: [Row; 19] = [
+    Row {
+        source: "length \"dog\"",
+        certificate: "j 0 0 0 0 0 dog\nj 1 0 0 0 1 0 error\n",
+        input: None,
+        text: "The value at time 0 is `error`.\np:1:1:\nlength \"dog\"\n^\nAt time 0 `length` gets dog: it wants a list or a string.\n\"red\" is a word, and no string: the string of a word x is `mkstring x`.\n",
+    },
     Row {
         source: "1 + \"dog\"",
         certificate: "j 0 0 0 0 0 1\nj 1 0 0 0 0 dog\nj 2 0 0 0 2 0 1 error\n",
         input: None,
-        text: "The value at time 0 is `error`.\np:1:3:\n1 + \"dog\"\n  ^\nAt time 0 `+` gets 1 and dog: it wants two integers.\nStrings, as `red' and `blue', are joined by `^`, and lists by `<>`. \"red\" is a word, and words aren't joined.\n",
+        text: "The value at time 0 is `error`.\np:1:3:\n1 + \"dog\"\n  ^\nAt time 0 `+` gets 1 and dog: it wants two integers.\nStrings, as `red' and `blue', are joined by `^`, and lists by `<>`. \"red\" is a word, and words aren't joined. Each line of an input is a value, also a heading.\n",
     },
     Row {
         source: "t where t = a fby t + next a; end",
         certificate: "j 3 0 1 0 0 dog\nj 4 0 0 0 1 0 dog\nj 1 0 0 0 0 1\nj 6 0 0 0 1 2 1\nj 2 0 0 0 1 3 1\nj 5 0 0 0 2 4 1 error\nj 6 0 1 0 1 5 error\nj 0 0 1 0 1 6 error\n",
         input: None,
-        text: "The value at time 1 is `error`.\nt at time 1 is `error`.\np:1:21:\nt where t = a fby t + next a; end\n                    ^\nAt time 0 `+` gets 1 and dog: it wants two integers.\nStrings, as `red' and `blue', are joined by `^`, and lists by `<>`. \"red\" is a word, and words aren't joined.\n",
+        text: "The value at time 1 is `error`.\nt at time 1 is `error`.\np:1:21:\nt where t = a fby t + next a; end\n                    ^\nAt time 0 `+` gets 1 and dog: it wants two integers.\nStrings, as `red' and `blue', are joined by `^`, and lists by `<>`. \"red\" is a word, and words aren't joined. Each line of an input is a value, also a heading.\n",
     },
     Row {
         source: "f(3) where f(x) = x * \"b\"; end",
@@ -39,7 +45,7 @@ static ROWS: [Row; 18] = [
         source: "u atspace 1 where u = 0 sby hd u; end",
         certificate: "j 3 0 0 0 0 0\nj 6 0 0 0 1 0 0\nj 4 0 0 0 1 1 0\nj 5 0 0 0 1 2 error\nj 6 0 0 1 1 3 error\nj 0 0 0 1 1 4 error\nj 1 0 0 0 0 1\nj 2 0 0 0 2 6 5 error\n",
         input: None,
-        text: "The value at time 0 is `error`.\nu at time 0, space 1 is `error`.\np:1:29:\nu atspace 1 where u = 0 sby hd u; end\n                            ^\nAt time 0 `hd` gets 0: it wants a list.\n",
+        text: "The value at time 0 is `error`.\nu at time 0, space 1 is `error`.\np:1:29:\nu atspace 1 where u = 0 sby hd u; end\n                            ^\nAt time 0 `hd` gets 0: it wants a list.\nThe first value of a stream n is `first n`.\n",
     },
     Row {
         source: "t where t = a fby t + next a; end",
@@ -81,7 +87,7 @@ static ROWS: [Row; 18] = [
         source: "1 attime 2 - 3",
         certificate: "j 1 0 0 0 0 2\nj 2 0 0 0 0 3\nj 3 0 0 0 2 0 1 -1\nj 4 0 0 0 1 2 error\n",
         input: None,
-        text: "The value at time 0 is `error`.\np:1:3:\n1 attime 2 - 3\n  ^\nAt time 0 `attime` gets -1: it wants a time, from 0 to 9223372036854775807.\n",
+        text: "The value at time 0 is `error`.\np:1:3:\n1 attime 2 - 3\n  ^\nAt time 0 `attime` gets -1: it wants a time, from 0 to 9223372036854775807. The value of n one time before is `(0 fby n)`, which is 0 at first.\n",
     },
     Row {
         source: "iserror error",
@@ -93,7 +99,7 @@ static ROWS: [Row; 18] = [
         source: "a",
         certificate: "j 0 0 0 0 0 error\n",
         input: Some("1,2\n"),
-        text: "The value at time 0 is `error`.\na at time 0 is `error`.\np:1:1:\na\n^\nLine 1 of this input is no value, or it is `error` itself. A value is an integer, as -12, a word without quotes, as red, a string, as `two words', a list, as [% 1 2 %], `true` or `false`. Of an input x, `x whenever not iserror x` has the other lines.\nThe line is: 1,2\nAs a string it is written `1,2'.\nA line is one value: two columns stand in two files, or as lists, `[% 1 2 %]`, without commas.\n",
+        text: "The value at time 0 is `error`.\na at time 0 is `error`.\np:1:1:\na\n^\nLine 1 of this input is no value, or it is `error` itself. A value is an integer, as -12, a word without quotes, as red, a string, as `two words', a list, as [% 1 2 %], `true` or `false`. Of an input x, `x whenever not iserror x` has the other lines.\nThe line is: 1,2\nAs a string it is written `1,2'.\nA line is one value: there are no real numbers, and two columns stand in two files, or as lists, `[% 1 2 %]`, without commas.\n",
     },
     Row {
         source: "false or 3",

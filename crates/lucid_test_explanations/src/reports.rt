@@ -467,7 +467,7 @@ static DONE: [Row; 10] = [
         words: "p",
         source: "1 + \"dog\"",
         status: Status::Done,
-        report: "The value at time 0 is `error`.\np:1:3:\n1 + \"dog\"\n  ^\nAt time 0 `+` gets 1 and dog: it wants two integers.\nStrings, as `red' and `blue', are joined by `^`, and lists by `<>`. \"red\" is a word, and words aren't joined.\n",
+        report: "The value at time 0 is `error`.\np:1:3:\n1 + \"dog\"\n  ^\nAt time 0 `+` gets 1 and dog: it wants two integers.\nStrings, as `red' and `blue', are joined by `^`, and lists by `<>`. \"red\" is a word, and words aren't joined. Each line of an input is a value, also a heading.\n",
     },
     Row {
         words: "p",
