@@ -22,7 +22,7 @@ byte_advice b =
     if b == 47 then codes "Division is `div`, and what it leaves over is `mod`. A comment begins with `//`.\n"
     else if b == 46 then codes "No `.` stands outside comments and strings: operators and functions stand before what they take, as in `next n` and `f(n)`.\n"
     else if b == 34 then codes "A word stands between two \", as in \"red\": a letter, then letters and digits. Integers, `true` and `false` stand without \", and other texts as `two words'.\n"
-    else if b == 39 then string_advice
+    else if b == 39 then codes "A word stands between two \", as in \"red\". A string begins with a backquote and ends with ' in one line, as `two words'.\n"
     else if b == 33 then codes "Write `ne` for what differs, and `not` before a truth.\n"
     else if b == 38 then codes "Write `and`, and to join strings `^`.\n"
     else if b == 124 then codes "Write `or`. Cases are told apart by `if .. then .. else .. fi`.\n"

@@ -30,7 +30,8 @@ fn byte_advice(byte: u8) -> &'static [u8]
             b"No `.` stands outside comments and strings: operators and functions stand before what they take, as in `next n` and `f(n)`.\n",
         b'"' =>
             b"A word stands between two \", as in \"red\": a letter, then letters and digits. Integers, `true` and `false` stand without \", and other texts as `two words'.\n",
-        b'\'' => STRING,
+        b'\'' =>
+            b"A word stands between two \", as in \"red\". A string begins with a backquote and ends with ' in one line, as `two words'.\n",
         b'!' => b"Write `ne` for what differs, and `not` before a truth.\n",
         b'&' => b"Write `and`, and to join strings `^`.\n",
         b'|' => b"Write `or`. Cases are told apart by `if .. then .. else .. fi`.\n",

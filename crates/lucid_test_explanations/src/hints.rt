@@ -569,7 +569,7 @@ static CHARACTERS: [Ends; 30] = [
     Ends {
         source: b"1 + 'dog'",
         begin: "bad byte at 4\n",
-        end: "^\nA string begins with a backquote and ends with ' in one line, as `two words'. It has printable ASCII alone, without these two.\n",
+        end: "^\nA word stands between two \", as in \"red\". A string begins with a backquote and ends with ' in one line, as `two words'.\n",
     },
     Ends {
         source: b"n.next where n = 0 fby n + 1; end",
