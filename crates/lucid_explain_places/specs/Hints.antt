@@ -94,7 +94,7 @@ open_hint read =
 abbrev pub whole_hint : PlainAround → List ℕ
 whole_hint a =
     if same_bytes a.read (codes ")") then codes "Before this no `(` is open: leave it out.\n"
-    else if same_bytes a.read (codes ",") then codes "A program has one subject. Names of its block are written side by side by `--columns x,y`.\n"
+    else if same_bytes a.read (codes ",") then codes "A program has one subject. Names of its block are written side by side by `--columns x,y`. Tests are joined by `and`, and values by `::`, as in `x :: y :: []`.\n"
     else if same_bytes a.read (codes "fi") then codes "Before this no `if` is open: leave the `fi` out.\n"
     else if same_bytes a.before (codes "end") then codes "Before this the program is whole: leave out what stands behind.\n"
     else if same_bytes a.read (codes ";") then codes "Behind a definition alone stands `;`: leave it out.\n"
@@ -335,7 +335,7 @@ abbrev pub foreign_hint : PlainAround → List Candidate → List ℕ
 foreign_hint a those =
     if has (codes "where") those && same_bytes a.before (codes "let") then codes "There is no `let`: definitions stand behind `where`, as in `n where n = 1; end`.\n"
     else if has (codes "where") those && same_bytes a.before (codes "head") then codes "The first item of a list l is `hd l`, and the others are `tl l`.\n"
-    else if has (codes "where") those && is_previous a then codes "The value of n one time before is `0 fby n`, which is 0 at first.\n"
+    else if has (codes "where") those && is_previous a then codes "The value of n one time before is `(0 fby n)`, which is 0 at first.\n"
     else if is_moment a those then codes "A name is defined once, for all times: `n = 0 fby n + 1;`.\n"
     else place_hint a those
 

@@ -180,7 +180,7 @@ fn whole_hint(around: &Around<'_>) -> &'static [u8]
     if around.read == b")".as_slice() {
         b"Before this no `(` is open: leave it out.\n"
     } else if around.read == b",".as_slice() {
-        b"A program has one subject. Names of its block are written side by side by `--columns x,y`.\n"
+        b"A program has one subject. Names of its block are written side by side by `--columns x,y`. Tests are joined by `and`, and values by `::`, as in `x :: y :: []`.\n"
     } else if around.read == b"fi".as_slice() {
         b"Before this no `if` is open: leave the `fi` out.\n"
     } else if around.before == b"end".as_slice() {
@@ -632,7 +632,7 @@ fn foreign_hint(around: &Around<'_>, those: &[Candidate]) -> &'static [u8]
     } else if has(b"where", those) && around.before == b"head".as_slice() {
         b"The first item of a list l is `hd l`, and the others are `tl l`.\n"
     } else if has(b"where", those) && is_previous(around) {
-        b"The value of n one time before is `0 fby n`, which is 0 at first.\n"
+        b"The value of n one time before is `(0 fby n)`, which is 0 at first.\n"
     } else if is_moment(around, those) {
         b"A name is defined once, for all times: `n = 0 fby n + 1;`.\n"
     } else {

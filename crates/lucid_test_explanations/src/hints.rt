@@ -141,7 +141,7 @@ static HINTS: [Ends; 40] = [
     Ends {
         source: b"x, y where x = 1; y = 2; end",
         begin: "syntax at 1\n",
-        end: ".\nA program has one subject. Names of its block are written side by side by `--columns x,y`.\n",
+        end: ".\nA program has one subject. Names of its block are written side by side by `--columns x,y`. Tests are joined by `and`, and values by `::`, as in `x :: y :: []`.\n",
     },
     Ends {
         source: b"(1, 2)",
@@ -325,7 +325,7 @@ static MORE_HINTS: [Ends; 47] = [
     Ends {
         source: b"prev n where n = 1; end",
         begin: "syntax at 5\n",
-        end: ".\nThe value of n one time before is `0 fby n`, which is 0 at first.\n",
+        end: ".\nThe value of n one time before is `(0 fby n)`, which is 0 at first.\n",
     },
     Ends {
         source: b"n not eq 3 where n = 1; end",
@@ -713,7 +713,7 @@ static SLIPS: [Ends; 21] = [
     Ends {
         source: b"n - last n where n = 1; end",
         begin: "syntax at 9\n",
-        end: ".\nThe value of n one time before is `0 fby n`, which is 0 at first.\n",
+        end: ".\nThe value of n one time before is `(0 fby n)`, which is 0 at first.\n",
     },
 ];
 
