@@ -122,7 +122,8 @@ equals_hint a those =
 -- in a definition
 unfoldable pub definition_hint : (read : List ℕ) → List Candidate → List ℕ
 definition_hint read those =
-    if has (codes ";") those then codes "Each definition ends with `;`, the last one before `end` too.\n"
+    if reads read (codes ",") (codes ";") those then codes "Each definition ends with `;`. Tests are joined by `and`, and values by `::`, as in `x :: y :: []`.\n"
+    else if has (codes ";") those then codes "Each definition ends with `;`, the last one before `end` too.\n"
     else if is_closing read && has (codes "end") those then codes "Behind `where` come the definitions, and then `end`.\n"
     else if reads read (codes "where") (codes "end") those then codes "One `where` stands before all definitions of a block, and before the `where` of an inner block stands no `;`.\n"
     else if has (codes "end") those && is_reserved read then codes "This word is reserved: no name is spelled so.\n"
@@ -150,6 +151,10 @@ is_ended a those = is_whole those && same_bytes a.before (codes "end")
 -- before a definition, where none may stand
 abbrev pub is_defining : PlainAround → List Candidate → Bool
 is_defining a those = is_whole those && (breaks_line a.gap || same_bytes a.after (codes "="))
+
+-- a second subject, in a line of its own before `where`
+abbrev pub is_second : PlainAround → List Candidate → Bool
+is_second a those = is_whole those && (breaks_line a.gap && same_bytes a.after (codes "where"))
 
 -- `eod` or `error` as a function
 abbrev pub is_asked : PlainAround → Bool
@@ -200,6 +205,7 @@ lacking_hint a those =
     if has (codes ";") those && breaks_line a.gap then line_hint a.gap
     else if is_ended a those then whole_hint a
     else if is_values a those then codes "Two numbers stand here, and no operator between them. Values of an input stand in a file of their own: `NAME=FILE` behind the program.\n"
+    else if is_second a those then codes "A program has one subject: `n :: m :: []` is one, and `--columns n,m` writes names of its block side by side.\n"
     else if is_defining a those then codes "Is `where` missing before the definitions?\n"
     else part_hint a those
 

@@ -2,7 +2,7 @@
 ghost use Rattle.std.specs.Prelude.{◌≡◌, ◌==◌, ℕ, ◌||◌, IfOk};
 ghost use Rattle.std.specs.Char.{is_ascii_alphabetic, is_ascii_digit};
 ghost use Rattle.lucid_explain_places.specs.Around.{plain_around};
-ghost use Rattle.lucid_explain_places.specs.Hints.{has, is_open, is_whole, is_closing, is_comparison, is_elif, is_step, is_part_word, lacks_operand, is_capital, begins_with, is_product, breaks_line, has_return, has_comment, is_swallowed, is_behind_parameter, open_hint, whole_hint, alone_hint, equals_hint, line_hint, is_argument, definition_hint, is_shift, is_prefix, ends_subject, is_postfix, is_values, is_ended, is_defining, is_asked, is_factor, missing_hint, part_hint, lacking_hint, is_inner, inner_hint, is_parted, is_listed, is_unopened, unopened_hint, last_hint, ending_hint, closing_hint, end_hint, head_hint, is_parameter, parameter_hint, is_between, is_infix, first_hint, is_remnant, is_cut, place_hint, is_previous, is_moment, foreign_hint, is_loop, is_followed, spoken_hint, behind_hint, reads, is_behind_block, are_both, arrow_hint, pair_hint, continues, is_dashed, is_in_remark, is_remark, chains, is_astray, astray_hint, word_hint, operator_hint, is_frozen, frozen_hint, is_cut_off, token_hint, hint};
+ghost use Rattle.lucid_explain_places.specs.Hints.{has, is_open, is_whole, is_closing, is_comparison, is_elif, is_step, is_part_word, lacks_operand, is_capital, begins_with, is_product, breaks_line, has_return, has_comment, is_swallowed, is_behind_parameter, open_hint, whole_hint, alone_hint, equals_hint, line_hint, is_argument, definition_hint, is_shift, is_prefix, ends_subject, is_postfix, is_values, is_ended, is_defining, is_second, is_asked, is_factor, missing_hint, part_hint, lacking_hint, is_inner, inner_hint, is_parted, is_listed, is_unopened, unopened_hint, last_hint, ending_hint, closing_hint, end_hint, head_hint, is_parameter, parameter_hint, is_between, is_infix, first_hint, is_remnant, is_cut, place_hint, is_previous, is_moment, foreign_hint, is_loop, is_followed, spoken_hint, behind_hint, reads, is_behind_block, are_both, arrow_hint, pair_hint, continues, is_dashed, is_in_remark, is_remark, chains, is_astray, astray_hint, word_hint, operator_hint, is_frozen, frozen_hint, is_cut_off, token_hint, hint};
 
 use crate::around::Around;
 use crate::candidates::Candidate;
@@ -234,7 +234,9 @@ fn equals_hint(around: &Around<'_>, those: &[Candidate]) -> &'static [u8]
 fn definition_hint(read: &[u8], those: &[Candidate]) -> &'static [u8]
     ensures { result.now ≡ definition_hint read.now those.now }
 {
-    if has(b";", those) {
+    if reads(read, b",", b";", those) {
+        b"Each definition ends with `;`. Tests are joined by `and`, and values by `::`, as in `x :: y :: []`.\n"
+    } else if has(b";", those) {
         b"Each definition ends with `;`, the last one before `end` too.\n"
     } else if is_closing(read) && has(b"end", those) {
         b"Behind `where` come the definitions, and then `end`.\n"
@@ -286,6 +288,13 @@ fn is_defining(around: &Around<'_>, those: &[Candidate]) -> bool
     ensures { result ≡ is_defining (plain_around around.now) those.now }
 {
     is_whole(those) && (breaks_line(around.gap) || around.after == b"=".as_slice())
+}
+
+// Whether this is a second subject, in a line of its own before `where`.
+fn is_second(around: &Around<'_>, those: &[Candidate]) -> bool
+    ensures { result ≡ is_second (plain_around around.now) those.now }
+{
+    is_whole(those) && (breaks_line(around.gap) && around.after == b"where".as_slice())
 }
 
 // Whether this is `eod` or `error` as a function.
@@ -382,6 +391,8 @@ fn lacking_hint(around: &Around<'_>, those: &[Candidate]) -> &'static [u8]
         whole_hint(around)
     } else if is_values(around, those) {
         b"Two numbers stand here, and no operator between them. Values of an input stand in a file of their own: `NAME=FILE` behind the program.\n"
+    } else if is_second(around, those) {
+        b"A program has one subject: `n :: m :: []` is one, and `--columns n,m` writes names of its block side by side.\n"
     } else if is_defining(around, those) {
         b"Is `where` missing before the definitions?\n"
     } else {

@@ -609,7 +609,17 @@ static CHARACTERS: [Ends; 30] = [
 ];
 
 // Hints at slips of the pen, and at what is written so elsewhere.
-static SLIPS: [Ends; 21] = [
+static SLIPS: [Ends; 23] = [
+    Ends {
+        source: b"n\nm where n = 1; m = 2; end",
+        begin: "syntax at 2\n",
+        end: ".\nA program has one subject: `n :: m :: []` is one, and `--columns n,m` writes names of its block side by side.\n",
+    },
+    Ends {
+        source: b"x where x = a, b; a = 1; b = 2; end",
+        begin: "syntax at 13\n",
+        end: ".\nEach definition ends with `;`. Tests are joined by `and`, and values by `::`, as in `x :: y :: []`.\n",
+    },
     Ends {
         source: b"-- a clock\nn where n = 1; end",
         begin: "syntax at 5\n",
