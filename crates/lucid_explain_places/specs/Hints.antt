@@ -353,12 +353,24 @@ is_loop before = same_bytes before (codes "for") || same_bytes before (codes "wh
 abbrev pub is_followed : PlainAround → Bool
 is_followed a = same_bytes a.read (codes "followed") && same_bytes a.after (codes "by")
 
+-- this word, where a program goes on: it begins neither a line nor a definition
+abbrev pub is_joining : PlainAround → (word : List ℕ) → List Candidate → Bool
+is_joining a word those = reads a.read word (codes "where") those && (not (breaks_line a.gap) && not (same_bytes a.after (codes "=")))
+
+-- words that other languages write between two expressions
+unfoldable pub joining_hint : PlainAround → List Candidate → List ℕ
+joining_hint a those =
+    if is_joining a (codes "at") those then codes "The value of n at time 3 is `n attime 3`.\n"
+    else if is_joining a (codes "until") those then codes "A run ends where the subject is `eod`, as in `if n > 5 then eod else n fi`, or by --count N.\n"
+    else if is_joining a (codes "equals") those then codes "To compare, write `eq`.\n"
+    else foreign_hint a those
+
 -- words of a text, where an operator lacks
 unfoldable pub spoken_hint : PlainAround → List Candidate → List ℕ
 spoken_hint a those =
     if is_followed a then codes "`followed by` is written `fby`, as in `0 fby n`.\n"
     else if has (codes "where") those && is_loop a.before then codes "There are no loops: `n = 0 fby n + 1;` defines the values of all times, and --count N says how many are written.\n"
-    else foreign_hint a those
+    else joining_hint a those
 
 -- by the token before
 abbrev pub behind_hint : PlainAround → List Candidate → List ℕ

@@ -2,7 +2,7 @@
 ghost use Rattle.std.specs.Prelude.{◌≡◌, ◌==◌, ℕ, ◌||◌, IfOk};
 ghost use Rattle.std.specs.Char.{is_ascii_alphabetic, is_ascii_digit};
 ghost use Rattle.lucid_explain_places.specs.Around.{plain_around};
-ghost use Rattle.lucid_explain_places.specs.Hints.{has, is_open, is_whole, is_closing, is_comparison, is_elif, is_step, is_part_word, lacks_operand, is_capital, begins_with, is_product, breaks_line, has_return, has_comment, is_swallowed, is_behind_parameter, open_hint, whole_hint, alone_hint, equals_hint, line_hint, is_argument, definition_hint, is_shift, is_prefix, ends_subject, is_postfix, is_values, is_ended, is_defining, is_second, is_asked, is_factor, missing_hint, part_hint, lacking_hint, is_inner, inner_hint, is_parted, is_listed, is_unopened, unopened_hint, last_hint, ending_hint, closing_hint, end_hint, head_hint, is_parameter, parameter_hint, is_between, is_infix, first_hint, is_remnant, is_cut, place_hint, is_previous, is_moment, foreign_hint, is_loop, is_followed, spoken_hint, behind_hint, reads, is_behind_block, are_both, arrow_hint, pair_hint, continues, is_dashed, is_in_remark, is_remark, chains, is_astray, astray_hint, word_hint, operator_hint, is_frozen, frozen_hint, is_cut_off, token_hint, hint};
+ghost use Rattle.lucid_explain_places.specs.Hints.{has, is_open, is_whole, is_closing, is_comparison, is_elif, is_step, is_part_word, lacks_operand, is_capital, begins_with, is_product, breaks_line, has_return, has_comment, is_swallowed, is_behind_parameter, open_hint, whole_hint, alone_hint, equals_hint, line_hint, is_argument, definition_hint, is_shift, is_prefix, ends_subject, is_postfix, is_values, is_ended, is_defining, is_second, is_asked, is_factor, missing_hint, part_hint, lacking_hint, is_inner, inner_hint, is_parted, is_listed, is_unopened, unopened_hint, last_hint, ending_hint, closing_hint, end_hint, head_hint, is_parameter, parameter_hint, is_between, is_infix, first_hint, is_remnant, is_cut, place_hint, is_previous, is_moment, foreign_hint, is_loop, is_followed, is_joining, joining_hint, spoken_hint, behind_hint, reads, is_behind_block, are_both, arrow_hint, pair_hint, continues, is_dashed, is_in_remark, is_remark, chains, is_astray, astray_hint, word_hint, operator_hint, is_frozen, frozen_hint, is_cut_off, token_hint, hint};
 
 use crate::around::Around;
 use crate::candidates::Candidate;
@@ -665,6 +665,30 @@ fn is_followed(around: &Around<'_>) -> bool
     around.read == b"followed".as_slice() && around.after == b"by".as_slice()
 }
 
+// Whether this is the word, where a program goes on: it begins neither a line nor a definition.
+fn is_joining(around: &Around<'_>, word: &[u8], those: &[Candidate]) -> bool
+    ensures { result ≡ is_joining (plain_around around.now) word.now those.now }
+{
+    reads(around.read, word, b"where", those)
+        && (!breaks_line(around.gap) && around.after != b"=".as_slice())
+}
+
+// A hint at words that other languages write between two expressions.
+#[tactic(auto, unfolding(crate::specs::Hints::joining_hint))]
+fn joining_hint(around: &Around<'_>, those: &[Candidate]) -> &'static [u8]
+    ensures { result.now ≡ joining_hint (plain_around around.now) those.now }
+{
+    if is_joining(around, b"at", those) {
+        b"The value of n at time 3 is `n attime 3`.\n"
+    } else if is_joining(around, b"until", those) {
+        b"A run ends where the subject is `eod`, as in `if n > 5 then eod else n fi`, or by --count N.\n"
+    } else if is_joining(around, b"equals", those) {
+        b"To compare, write `eq`.\n"
+    } else {
+        foreign_hint(around, those)
+    }
+}
+
 // A hint at words of a text, where an operator lacks.
 #[tactic(auto, unfolding(crate::specs::Hints::spoken_hint))]
 fn spoken_hint(around: &Around<'_>, those: &[Candidate]) -> &'static [u8]
@@ -675,7 +699,7 @@ fn spoken_hint(around: &Around<'_>, those: &[Candidate]) -> &'static [u8]
     } else if has(b"where", those) && is_loop(around.before) {
         b"There are no loops: `n = 0 fby n + 1;` defines the values of all times, and --count N says how many are written.\n"
     } else {
-        foreign_hint(around, those)
+        joining_hint(around, those)
     }
 }
 

@@ -609,7 +609,22 @@ static CHARACTERS: [Ends; 30] = [
 ];
 
 // Hints at slips of the pen, and at what is written so elsewhere.
-static SLIPS: [Ends; 23] = [
+static SLIPS: [Ends; 26] = [
+    Ends {
+        source: b"n at 3 where n = 0 fby n + 1; end",
+        begin: "syntax at 2\n",
+        end: ".\nThe value of n at time 3 is `n attime 3`.\n",
+    },
+    Ends {
+        source: b"n until n > 5 where n = 0 fby n + 1; end",
+        begin: "syntax at 2\n",
+        end: ".\nA run ends where the subject is `eod`, as in `if n > 5 then eod else n fi`, or by --count N.\n",
+    },
+    Ends {
+        source: b"n equals 3 where n = 0 fby n + 1; end",
+        begin: "syntax at 2\n",
+        end: ".\nTo compare, write `eq`.\n",
+    },
     Ends {
         source: b"n\nm where n = 1; m = 2; end",
         begin: "syntax at 2\n",
