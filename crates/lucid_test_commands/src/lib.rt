@@ -1,28 +1,10 @@
-//! The worked rows of the command, over files and sinks in memory. Each is worked out by hand from the rules of the language and of the
-//! command's words.
+//! Tests alone, of the command and of what is said of its reports: worked rows over files and sinks in memory. Each is worked out by hand from the
+//! rules of the language, of the command's words and of its explanations.
 #![tactic(auto)]
 
 #[cfg(test)]
-mod certificates;
+mod commands;
 #[cfg(test)]
-mod columns;
+mod explanations;
 #[cfg(test)]
-mod cycles;
-#[cfg(test)]
-mod failures;
-#[cfg(test)]
-mod flat;
-#[cfg(test)]
-mod given;
-#[cfg(test)]
-mod inputs;
-#[cfg(test)]
-mod programs;
-#[cfg(test)]
-mod refused;
-#[cfg(test)]
-mod row;
-#[cfg(test)]
-mod streams;
-#[cfg(test)]
-mod tables;
+mod told;

@@ -1,6 +1,6 @@
 //! All rows, each by the ways in which it is tried.
-use crate::row::{Row, Way, each_passes_by};
-use crate::{certificates, columns, cycles, flat, inputs, refused, streams};
+use crate::commands::row::{Row, Way, each_passes_by};
+use crate::commands::{certificates, columns, cycles, flat, inputs, refused, streams};
 use std::alloc::Global;
 use std::test::Fail;
 

@@ -1,5 +1,5 @@
 //! Sources and words that are refused.
-use crate::row::{REFUSED, Row, USAGE};
+use crate::commands::row::{REFUSED, Row, USAGE};
 use lucid_test_programs::COUNTING;
 
 // Bytes that are no tokens, and tokens that spell no program.

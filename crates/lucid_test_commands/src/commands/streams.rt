@@ -1,5 +1,5 @@
 //! Programs without inputs: their lines by default and by the policies, values that are too deep, and what is printed and made.
-use crate::row::{DONE, Row, TOO_DEEP};
+use crate::commands::row::{DONE, Row, TOO_DEEP};
 use lucid_test_programs::{COUNTING, DEEP_TREE, NO_VALUE, SEARCH_WITHOUT_END, THIRDS};
 
 // Twenty lines where no count is given.

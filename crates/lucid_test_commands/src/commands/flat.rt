@@ -1,6 +1,6 @@
 //! The flat form: what is written of a program, and what runs and is refused as a source. Its rules are those of the form: a line for each
 //! row, and each row's names lead somewhere.
-use crate::row::{DONE, REFUSED, Row, USAGE};
+use crate::commands::row::{DONE, REFUSED, Row, USAGE};
 use lucid_report::Status;
 use lucid_test_programs::COUNTING;
 

@@ -1,5 +1,5 @@
 //! Columns: several names of the outermost block side by side, and what is refused as a column.
-use crate::row::{DONE, REFUSED, Row, TOO_DEEP, USAGE};
+use crate::commands::row::{DONE, REFUSED, Row, TOO_DEEP, USAGE};
 use lucid_test_programs::THREE_NAMES;
 
 const THREE_LINES: &str = "1\t1\t5\n2\t4\t\n3\t9\t\n";

@@ -2,6 +2,7 @@
 ghost use Rattle.std.specs.Prelude.{◌≡◌, IfOk};
 ghost use Rattle.lucid_ports.specs.MemoryView.{memory_world};
 
+use crate::told::word_list;
 use lucid_explain_command::{Remembering, Watched, lucid_explain};
 use lucid_explain_report::{Again, Outlook};
 use lucid_ports::{MemoryFile, MemoryPlaces, MemorySink, Sink};
@@ -64,15 +65,6 @@ fn places_of(alloc: Global, source: &[u8]) -> Result<MemoryPlaces, AllocError>
     Ok(MemoryPlaces::make(alloc, files, Vec::new(alloc)))
 }
 
-// The words, parted by blanks.
-fn words_of(alloc: Global, words: &str) -> Result<Vec<String>, AllocError> {
-    let mut list = Vec::new(alloc);
-    for word in words.split_whitespace() {
-        list.push(String::from_str(alloc, word)?)?;
-    }
-    Ok(list)
-}
-
 /// Calls the command with the words, parted by blanks, over the file `p`, with an output.
 pub(crate) fn call_into<K: Sink>(
     alloc: Global,
@@ -81,7 +73,7 @@ pub(crate) fn call_into<K: Sink>(
     out: &mut Watched<K>,
     outlook: &OneFile<'_>,
 ) -> Result<Answer, AllocError> {
-    let words = words_of(alloc, words)?;
+    let words = word_list(alloc, words)?;
     let inner = places_of(alloc, source)?;
     let mut places = Remembering::make(alloc, inner);
     let mut report = MemorySink::make(alloc, 100, Vec::new(alloc));

@@ -1,5 +1,5 @@
 //! Certificates that are made and checked: a value that they tell, a judgment that doesn't follow, and the order of what is looked at.
-use crate::row::{DONE, REFUSED, Row, TOO_DEEP, USAGE};
+use crate::commands::row::{DONE, REFUSED, Row, TOO_DEEP, USAGE};
 use lucid_ports::FailAt;
 use lucid_report::Status;
 

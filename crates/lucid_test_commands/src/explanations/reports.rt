@@ -1,5 +1,5 @@
 //! Reports with what explains them, over files in memory: a row for each line that is reported.
-use crate::call::{OneFile, call, plain_call};
+use crate::explanations::call::{OneFile, call, plain_call};
 use lucid_report::Status;
 use std::alloc::{AllocError, Global};
 use std::test::Fail;

@@ -1,5 +1,5 @@
 //! The hints that end a report, over sources in memory: a row for each.
-use crate::call::plain_call;
+use crate::explanations::call::plain_call;
 use std::alloc::{AllocError, Global};
 use std::test::Fail;
 

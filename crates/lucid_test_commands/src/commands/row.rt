@@ -2,6 +2,7 @@
 ghost use Rattle.std.specs.Prelude.{◌≡◌, ◌≤◌, IfOk, OnOk};
 ghost use Rattle.lucid_ports.specs.MemoryView.{memory_world};
 
+use crate::told::word_list;
 use lucid_ports::{FailAt, MemoryFile, MemoryPlaces, MemorySink, Places};
 use lucid_report::Status;
 use lucid_top::lucid;
@@ -88,15 +89,6 @@ impl Answer {
             && self.out.written() == out.as_bytes()
             && self.report.written() == report.as_bytes()
     }
-}
-
-/// The words, parted by blanks.
-pub(crate) fn word_list(alloc: Global, words: &str) -> Result<Vec<String>, AllocError> {
-    let mut list = Vec::new(alloc);
-    for word in words.split_whitespace() {
-        list.push(String::from_str(alloc, word)?)?;
-    }
-    Ok(list)
 }
 
 /// Calls the command. A write takes at most `most` bytes of its piece, and the listed ones fail.

@@ -1,5 +1,5 @@
 //! Judgments by the delays along cycles of references.
-use crate::row::{DONE, REFUSED, Row};
+use crate::commands::row::{DONE, REFUSED, Row};
 use lucid_report::Status;
 use lucid_test_programs::{COUNTING, FIBONACCI, SEARCH_WITHOUT_END};
 

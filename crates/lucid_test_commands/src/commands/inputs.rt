@@ -1,5 +1,6 @@
 //! Programs over inputs: their lines, and how many bytes they consume.
-use crate::row::{DONE, Row, call, places_of};
+use crate::commands::row::{DONE, Row, call, places_of};
+use crate::told::must;
 use lucid_ports::{FailAt, Narrow};
 use lucid_report::Status;
 use lucid_test_programs::{COUNTING, RUNNING_SUM};
@@ -76,9 +77,5 @@ fn byte_by_byte(alloc: Global) -> Result<bool, Fail> {
 
 #[test]
 fn sales_byte_by_byte(rt: HostRuntime) -> Result<(), Fail> {
-    if byte_by_byte(rt.alloc())? {
-        Ok(())
-    } else {
-        Err(Fail::new("the sales, byte by byte"))
-    }
+    must(byte_by_byte(rt.alloc())?, "the sales, byte by byte")
 }

@@ -1,5 +1,5 @@
 //! An output for which there is never memory, and a source that is a pipe.
-use crate::call::{OneFile, call, call_into};
+use crate::explanations::call::{OneFile, call, call_into};
 use lucid_explain_command::Watched;
 use lucid_ports::{PortFault, Sink};
 use lucid_report::Status;

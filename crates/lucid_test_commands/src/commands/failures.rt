@@ -1,7 +1,7 @@
 //! Failures in turn: a read or a write fails at each place at which it can.
 ghost use Rattle.std.specs.Prelude.{◌≤◌};
 
-use crate::row::{call, places_of, taken};
+use crate::commands::row::{call, places_of, taken};
 use lucid_ports::FailAt;
 use lucid_report::Status;
 use lucid_test_programs::{COUNTING, RUNNING_SUM};

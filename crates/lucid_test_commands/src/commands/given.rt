@@ -1,5 +1,6 @@
 //! A call under a policy and a pick that are given.
-use crate::row::{Answer, places_of, word_list};
+use crate::commands::row::{Answer, places_of};
+use crate::told::{must, word_list};
 use lucid_ports::MemorySink;
 use lucid_report::Status;
 use lucid_retire::Nothing;
@@ -34,6 +35,5 @@ fn drops(alloc: Global) -> Result<bool, Fail> {
 
 #[test]
 fn the_given_policy_drops(rt: HostRuntime) -> Result<(), Fail> {
-    assert!(rt; drops(rt.alloc())?);
-    Ok(())
+    must(drops(rt.alloc())?, "nothing is kept")
 }

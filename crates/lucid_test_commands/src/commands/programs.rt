@@ -1,5 +1,5 @@
 //! The worked programs by the command.
-use crate::row::{Answer, Row, Way, call, passes_by, places_of};
+use crate::commands::row::{Answer, Row, Way, call, passes_by, places_of};
 use lucid_report::Status;
 use lucid_test_programs::{IN_CONTEXTS, OVER_INPUTS, OVER_SPACE, OVER_TIME, UNDEFINED, Worked};
 use std::alloc::{AllocError, Global};
