@@ -106,7 +106,7 @@ alone_hint read those =
     if has (codes "end") those then codes "The name that is defined is missing before this.\n"
     else if is_whole those then codes "A program begins with an expression, and its definitions stand behind `where`: `n where n = 1; end`. To compare, write `eq`.\n"
     else if is_behind_parameter those then open_hint read
-    else if has (codes ";") those then codes "A definition has one `=`: to compare, write `eq`.\n"
+    else if has (codes ";") those then codes "A definition has one name and one `=`: two are written `x = 0; y = 0;`. To compare, write `eq`.\n"
     else codes "`=` stands in definitions alone: to compare, write `eq`.\n"
 
 -- of a `=`
@@ -116,7 +116,7 @@ equals_hint a those =
     else if same_bytes a.after (codes ">") then codes "To compare, write `>=`.\n"
     else if same_bytes a.after (codes "<") then codes "To compare, write `<=`.\n"
     else if same_bytes a.after (codes "=") then codes "To compare, write `eq`.\n"
-    else if same_bytes a.before (codes "=") then codes "A definition has one `=`: to compare, write `eq`.\n"
+    else if same_bytes a.before (codes "=") then codes "A definition has one name and one `=`: two are written `x = 0; y = 0;`. To compare, write `eq`.\n"
     else alone_hint a.read those
 
 -- in a definition
@@ -275,6 +275,7 @@ head_hint a =
     if is_step a.read && same_bytes a.after (codes "=") then codes "A name is defined once, for all times: `n = 0 fby n + 1;`.\n"
     else if same_bytes a.read (codes "-") && length a.gap == 0 then codes "A name has letters, digits and `_` alone.\n"
     else if same_bytes a.read (codes "::") then codes "Kinds of values aren't declared: behind the name stands `=`, and then what it is.\n"
+    else if is_comparison a.read then codes "A definition begins with the name that it defines, and then `=`: `n = 1;`. A condition on times stands behind `whenever`, as in `n whenever n > 3`.\n"
     else if length a.read == 0 then codes "Behind `where` come the definitions, and then `end`.\n"
     else codes "A definition begins with the name that it defines, and then `=`: `n = 1;`. Parameters stand in parentheses: `f(x) = x + 1;`.\n"
 
@@ -349,9 +350,9 @@ foreign_hint a those =
 abbrev pub is_loop : (before : List ℕ) → Bool
 is_loop before = same_bytes before (codes "for") || same_bytes before (codes "while")
 
--- how `fby` is read aloud
-abbrev pub is_followed : PlainAround → Bool
-is_followed a = same_bytes a.read (codes "followed") && same_bytes a.after (codes "by")
+-- the token at the place and the one behind it
+abbrev pub are_next : PlainAround → (read after : List ℕ) → Bool
+are_next a read after = same_bytes a.read read && same_bytes a.after after
 
 -- this word, where a program goes on: it begins neither a line nor a definition
 abbrev pub is_joining : PlainAround → (word : List ℕ) → List Candidate → Bool
@@ -361,15 +362,20 @@ is_joining a word those = reads a.read word (codes "where") those && (not (break
 unfoldable pub joining_hint : PlainAround → List Candidate → List ℕ
 joining_hint a those =
     if is_joining a (codes "at") those then codes "The value of n at time 3 is `n attime 3`.\n"
-    else if is_joining a (codes "until") those then codes "A run ends where the subject is `eod`, as in `if n > 5 then eod else n fi`, or by --count N.\n"
+    else if is_joining a (codes "until") those || is_joining a (codes "while") those then codes "A run ends where the subject is `eod`, as in `if n > 5 then eod else n fi`, or by --count N.\n"
     else if is_joining a (codes "equals") those then codes "To compare, write `eq`.\n"
     else foreign_hint a those
+
+-- a loop, or one behind an expression
+abbrev pub is_looping : PlainAround → List Candidate → Bool
+is_looping a those = (has (codes "where") those && is_loop a.before) || is_joining a (codes "for") those
 
 -- words of a text, where an operator lacks
 unfoldable pub spoken_hint : PlainAround → List Candidate → List ℕ
 spoken_hint a those =
-    if is_followed a then codes "`followed by` is written `fby`, as in `0 fby n`.\n"
-    else if has (codes "where") those && is_loop a.before then codes "There are no loops: `n = 0 fby n + 1;` defines the values of all times, and --count N says how many are written.\n"
+    if are_next a (codes "followed") (codes "by") then codes "`followed by` is written `fby`, as in `0 fby n`.\n"
+    else if are_next a (codes "as") (codes "soon") then codes "`as soon as` is written `asa`, as in `n asa n > 3`.\n"
+    else if is_looping a those then codes "There are no loops: `n = 0 fby n + 1;` defines the values of all times, `n * n` has their squares, and --count N says how many are written.\n"
     else joining_hint a those
 
 -- by the token before

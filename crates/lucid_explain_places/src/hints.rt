@@ -2,7 +2,7 @@
 ghost use Rattle.std.specs.Prelude.{◌≡◌, ◌==◌, ℕ, ◌||◌, IfOk};
 ghost use Rattle.std.specs.Char.{is_ascii_alphabetic, is_ascii_digit};
 ghost use Rattle.lucid_explain_places.specs.Around.{plain_around};
-ghost use Rattle.lucid_explain_places.specs.Hints.{has, is_open, is_whole, is_closing, is_comparison, is_elif, is_step, is_part_word, lacks_operand, is_capital, begins_with, is_product, breaks_line, has_return, has_comment, is_swallowed, is_behind_parameter, open_hint, whole_hint, alone_hint, equals_hint, line_hint, is_argument, definition_hint, is_shift, is_prefix, ends_subject, is_postfix, is_values, is_ended, is_defining, is_second, is_asked, is_factor, missing_hint, part_hint, lacking_hint, is_inner, inner_hint, is_parted, is_listed, is_unopened, unopened_hint, last_hint, ending_hint, closing_hint, end_hint, head_hint, is_parameter, parameter_hint, is_between, is_infix, first_hint, is_remnant, is_cut, place_hint, is_previous, is_moment, foreign_hint, is_loop, is_followed, is_joining, joining_hint, spoken_hint, behind_hint, reads, is_behind_block, are_both, arrow_hint, pair_hint, continues, is_dashed, is_in_remark, is_remark, chains, is_astray, astray_hint, word_hint, operator_hint, is_frozen, frozen_hint, is_cut_off, token_hint, hint};
+ghost use Rattle.lucid_explain_places.specs.Hints.{has, is_open, is_whole, is_closing, is_comparison, is_elif, is_step, is_part_word, lacks_operand, is_capital, begins_with, is_product, breaks_line, has_return, has_comment, is_swallowed, is_behind_parameter, open_hint, whole_hint, alone_hint, equals_hint, line_hint, is_argument, definition_hint, is_shift, is_prefix, ends_subject, is_postfix, is_values, is_ended, is_defining, is_second, is_asked, is_factor, missing_hint, part_hint, lacking_hint, is_inner, inner_hint, is_parted, is_listed, is_unopened, unopened_hint, last_hint, ending_hint, closing_hint, end_hint, head_hint, is_parameter, parameter_hint, is_between, is_infix, first_hint, is_remnant, is_cut, place_hint, is_previous, is_moment, foreign_hint, is_loop, are_next, is_joining, joining_hint, is_looping, spoken_hint, behind_hint, reads, is_behind_block, are_both, arrow_hint, pair_hint, continues, is_dashed, is_in_remark, is_remark, chains, is_astray, astray_hint, word_hint, operator_hint, is_frozen, frozen_hint, is_cut_off, token_hint, hint};
 
 use crate::around::Around;
 use crate::candidates::Candidate;
@@ -203,7 +203,7 @@ fn alone_hint(read: &[u8], those: &[Candidate]) -> &'static [u8]
     } else if is_behind_parameter(those) {
         open_hint(read)
     } else if has(b";", those) {
-        b"A definition has one `=`: to compare, write `eq`.\n"
+        b"A definition has one name and one `=`: two are written `x = 0; y = 0;`. To compare, write `eq`.\n"
     } else {
         b"`=` stands in definitions alone: to compare, write `eq`.\n"
     }
@@ -223,7 +223,7 @@ fn equals_hint(around: &Around<'_>, those: &[Candidate]) -> &'static [u8]
     } else if around.after == b"=".as_slice() {
         b"To compare, write `eq`.\n"
     } else if around.before == b"=".as_slice() {
-        b"A definition has one `=`: to compare, write `eq`.\n"
+        b"A definition has one name and one `=`: two are written `x = 0; y = 0;`. To compare, write `eq`.\n"
     } else {
         alone_hint(around.read, those)
     }
@@ -525,6 +525,8 @@ fn head_hint(around: &Around<'_>) -> &'static [u8]
         b"A name has letters, digits and `_` alone.\n"
     } else if around.read == b"::".as_slice() {
         b"Kinds of values aren't declared: behind the name stands `=`, and then what it is.\n"
+    } else if is_comparison(around.read) {
+        b"A definition begins with the name that it defines, and then `=`: `n = 1;`. A condition on times stands behind `whenever`, as in `n whenever n > 3`.\n"
     } else if around.read.is_empty() {
         b"Behind `where` come the definitions, and then `end`.\n"
     } else {
@@ -658,11 +660,11 @@ fn is_loop(before: &[u8]) -> bool
     before == b"for".as_slice() || before == b"while".as_slice()
 }
 
-// Whether this is how `fby` is read aloud.
-fn is_followed(around: &Around<'_>) -> bool
-    ensures { result ≡ is_followed (plain_around around.now) }
+// Whether these are the token at the place and the one behind it.
+fn are_next(around: &Around<'_>, read: &[u8], after: &[u8]) -> bool
+    ensures { result ≡ are_next (plain_around around.now) read.now after.now }
 {
-    around.read == b"followed".as_slice() && around.after == b"by".as_slice()
+    around.read == read && around.after == after
 }
 
 // Whether this is the word, where a program goes on: it begins neither a line nor a definition.
@@ -680,7 +682,7 @@ fn joining_hint(around: &Around<'_>, those: &[Candidate]) -> &'static [u8]
 {
     if is_joining(around, b"at", those) {
         b"The value of n at time 3 is `n attime 3`.\n"
-    } else if is_joining(around, b"until", those) {
+    } else if is_joining(around, b"until", those) || is_joining(around, b"while", those) {
         b"A run ends where the subject is `eod`, as in `if n > 5 then eod else n fi`, or by --count N.\n"
     } else if is_joining(around, b"equals", those) {
         b"To compare, write `eq`.\n"
@@ -689,15 +691,24 @@ fn joining_hint(around: &Around<'_>, those: &[Candidate]) -> &'static [u8]
     }
 }
 
+// Whether a loop stands there, or one behind an expression.
+fn is_looping(around: &Around<'_>, those: &[Candidate]) -> bool
+    ensures { result ≡ is_looping (plain_around around.now) those.now }
+{
+    (has(b"where", those) && is_loop(around.before)) || is_joining(around, b"for", those)
+}
+
 // A hint at words of a text, where an operator lacks.
 #[tactic(auto, unfolding(crate::specs::Hints::spoken_hint))]
 fn spoken_hint(around: &Around<'_>, those: &[Candidate]) -> &'static [u8]
     ensures { result.now ≡ spoken_hint (plain_around around.now) those.now }
 {
-    if is_followed(around) {
+    if are_next(around, b"followed", b"by") {
         b"`followed by` is written `fby`, as in `0 fby n`.\n"
-    } else if has(b"where", those) && is_loop(around.before) {
-        b"There are no loops: `n = 0 fby n + 1;` defines the values of all times, and --count N says how many are written.\n"
+    } else if are_next(around, b"as", b"soon") {
+        b"`as soon as` is written `asa`, as in `n asa n > 3`.\n"
+    } else if is_looping(around, those) {
+        b"There are no loops: `n = 0 fby n + 1;` defines the values of all times, `n * n` has their squares, and --count N says how many are written.\n"
     } else {
         joining_hint(around, those)
     }

@@ -105,7 +105,7 @@ point_advice before rest =
 abbrev pub colon_advice : (before : List ℕ) → List ℕ
 colon_advice before =
     if same_bytes (last_name before) (codes "where") then codes "No `:` stands behind `where`: the definitions come there, and then `end`.\n"
-    else if is_loop (last_line before) then codes "There are no loops: `n = 0 fby n + 1;` defines the values of all times, and --count N says how many are written.\n"
+    else if is_loop (last_line before) then codes "There are no loops: `n = 0 fby n + 1;` defines the values of all times, `n * n` has their squares, and --count N says how many are written.\n"
     else if is_header (last_line before) then codes "A program begins with an expression, and its definitions stand behind `where`: `n where n = 0 fby n + 1; f(x) = x + 1; end`.\n"
     else ascii_advice before 58
 

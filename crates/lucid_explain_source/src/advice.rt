@@ -196,7 +196,7 @@ fn colon_advice(before: &[u8]) -> &'static [u8]
     if last_name(before) == b"where".as_slice() {
         b"No `:` stands behind `where`: the definitions come there, and then `end`.\n"
     } else if is_loop(last_line(before)) {
-        b"There are no loops: `n = 0 fby n + 1;` defines the values of all times, and --count N says how many are written.\n"
+        b"There are no loops: `n = 0 fby n + 1;` defines the values of all times, `n * n` has their squares, and --count N says how many are written.\n"
     } else if is_header(last_line(before)) {
         b"A program begins with an expression, and its definitions stand behind `where`: `n where n = 0 fby n + 1; f(x) = x + 1; end`.\n"
     } else {

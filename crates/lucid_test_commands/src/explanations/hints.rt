@@ -275,7 +275,7 @@ static MORE_HINTS: [Ends; 47] = [
     Ends {
         source: b"x where x = y = 0; end",
         begin: "syntax at 14\n",
-        end: ".\nA definition has one `=`: to compare, write `eq`.\n",
+        end: ".\nA definition has one name and one `=`: two are written `x = 0; y = 0;`. To compare, write `eq`.\n",
     },
     Ends {
         source: b"n where // one\r n = 1;\r end\r",
@@ -340,7 +340,7 @@ static MORE_HINTS: [Ends; 47] = [
     Ends {
         source: b"n where n == 1; end",
         begin: "syntax at 11\n",
-        end: ".\nA definition has one `=`: to compare, write `eq`.\n",
+        end: ".\nA definition has one name and one `=`: two are written `x = 0; y = 0;`. To compare, write `eq`.\n",
     },
     Ends {
         source: b"n where first n = 0; next n = n + 1; end",
@@ -450,7 +450,7 @@ static MORE_HINTS: [Ends; 47] = [
     Ends {
         source: b"while n < 3 where n = 1; end",
         begin: "syntax at 6\n",
-        end: ".\nThere are no loops: `n = 0 fby n + 1;` defines the values of all times, and --count N says how many are written.\n",
+        end: ".\nThere are no loops: `n = 0 fby n + 1;` defines the values of all times, `n * n` has their squares, and --count N says how many are written.\n",
     },
 ];
 
@@ -604,12 +604,32 @@ static CHARACTERS: [Ends; 30] = [
     Ends {
         source: b"for n in range(5):\n",
         begin: "bad byte at 17\n",
-        end: "^\nThere are no loops: `n = 0 fby n + 1;` defines the values of all times, and --count N says how many are written.\n",
+        end: "^\nThere are no loops: `n = 0 fby n + 1;` defines the values of all times, `n * n` has their squares, and --count N says how many are written.\n",
     },
 ];
 
 // Hints at slips of the pen, and at what is written so elsewhere.
-static SLIPS: [Ends; 26] = [
+static SLIPS: [Ends; 30] = [
+    Ends {
+        source: b"d as soon as d > 9 where d = 1 fby 2 * d; end",
+        begin: "syntax at 2\n",
+        end: ".\n`as soon as` is written `asa`, as in `n asa n > 3`.\n",
+    },
+    Ends {
+        source: b"n while n < 5 where n = 0 fby n + 1; end",
+        begin: "syntax at 2\n",
+        end: ".\nA run ends where the subject is `eod`, as in `if n > 5 then eod else n fi`, or by --count N.\n",
+    },
+    Ends {
+        source: b"x * x for x in n where n = 1; end",
+        begin: "syntax at 6\n",
+        end: ".\nThere are no loops: `n = 0 fby n + 1;` defines the values of all times, `n * n` has their squares, and --count N says how many are written.\n",
+    },
+    Ends {
+        source: b"n where n > 3; end",
+        begin: "syntax at 10\n",
+        end: ".\nA definition begins with the name that it defines, and then `=`: `n = 1;`. A condition on times stands behind `whenever`, as in `n whenever n > 3`.\n",
+    },
     Ends {
         source: b"n at 3 where n = 0 fby n + 1; end",
         begin: "syntax at 2\n",
