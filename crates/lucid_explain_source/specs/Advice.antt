@@ -29,7 +29,7 @@ byte_advice b =
     else if b == 37 then codes "What a division leaves over is `mod`. A comment begins with `//`.\n"
     else if b == 91 then list_advice
     else if b == 93 then codes "Before this no list is open: a `(` ends with `)`, and a list of constants with `%]`.\n"
-    else if b == 123 || b == 125 then codes "Parentheses group, and definitions stand between `where` and `end`.\n"
+    else if b == 123 || b == 125 then codes "Parentheses group, definitions stand between `where` and `end`, and a function is written `f(x) = x + 1;`.\n"
     else if b == 95 then codes "A name begins with a letter, and a number has digits alone.\n"
     else if b == 58 then codes "A definition is written with `=` and ends with `;`, as `n = 0 fby n + 1;` or `f(x) = x + 1;`, and `::` puts a value in front of a list. Behind a test stands `then`.\n"
     else if b == 63 then codes "A choice is written `if .. then .. else .. fi`.\n"

@@ -39,7 +39,8 @@ fn byte_advice(byte: u8) -> &'static [u8]
         b'[' => LIST,
         b']' =>
             b"Before this no list is open: a `(` ends with `)`, and a list of constants with `%]`.\n",
-        b'{' | b'}' => b"Parentheses group, and definitions stand between `where` and `end`.\n",
+        b'{' | b'}' =>
+            b"Parentheses group, definitions stand between `where` and `end`, and a function is written `f(x) = x + 1;`.\n",
         b'_' => b"A name begins with a letter, and a number has digits alone.\n",
         b':' =>
             b"A definition is written with `=` and ends with `;`, as `n = 0 fby n + 1;` or `f(x) = x + 1;`, and `::` puts a value in front of a list. Behind a test stands `then`.\n",

@@ -67,7 +67,7 @@ static BYTES: [Row; 10] = [
         words: "p",
         source: "x where x = 1; } end",
         status: Status::Refused,
-        report: "bad byte at 15\np:1:16:\nx where x = 1; } end\n               ^\nParentheses group, and definitions stand between `where` and `end`.\n",
+        report: "bad byte at 15\np:1:16:\nx where x = 1; } end\n               ^\nParentheses group, definitions stand between `where` and `end`, and a function is written `f(x) = x + 1;`.\n",
     },
     Row {
         words: "p",
