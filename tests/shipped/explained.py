@@ -97,7 +97,7 @@ def bytes_that_are_no_text(run):
     run.explaining().lucid("p").must("", 1, text)
 
 
-NO_VALUE = " of this input is no value, or it is `error` itself. A value is an integer, as -12, a word without quotes, as red, a string, as `two words', a list, as [% 1 2 %], `true` or `false`. Of an input x, `x whenever not iserror x` has the other lines.\n"
+NO_VALUE = " of this input is no value, or it is `error` itself. A value is an integer, as -12, a word without quotes, as red, a string, as `two words', a list, as [% 1 2 %], `true` or `false`. Of an input x, `x whenever not iserror x` has the other lines, and `x whenever not iserror x and isint x` the integers.\n"
 
 AT_NO_PLACE = "Where the values came from isn't told: the standard input can't be read again. With NAME=FILE an input has a file.\n"
 
@@ -144,7 +144,7 @@ def an_error_by_a_pipe_is_not_traced(run):
 def an_empty_input_is_told_of(run):
     run.source("a + 1")
     run.write("f", "")
-    said = "The value at time 0 is `eod`, the end of data: a run ends before it.\na at time 0 is `eod`.\np:1:1:\na + 1\n^\nThis input ends before line 1, or that line is `eod` itself.\n"
+    said = "The value at time 0 is `eod`, the end of data: a run ends before it.\na at time 0 is `eod`.\np:1:1:\na + 1\n^\nThis input ends before line 1, or that line is `eod` itself. At the last line of an input x `iseod next x` is true.\n"
     run.explaining().lucid("p", "a=f").must("", 0, said)
 
 

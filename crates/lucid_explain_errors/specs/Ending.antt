@@ -58,8 +58,8 @@ head_cause End t s vs h = head_end h
 -- of an input's element, which is that of a line, from 1
 abbrev pub line_text : Traced → (line : ℕ) → List ℕ
 line_text Error n =
-    codes "Line " ++ (decimal n ++ codes " of this input is no value, or it is `error` itself. A value is an integer, as -12, a word without quotes, as red, a string, as `two words', a list, as [% 1 2 %], `true` or `false`. Of an input x, `x whenever not iserror x` has the other lines.\n")
-line_text End n = codes "This input ends before line " ++ (decimal n ++ codes ", or that line is `eod` itself.\n")
+    codes "Line " ++ (decimal n ++ codes " of this input is no value, or it is `error` itself. A value is an integer, as -12, a word without quotes, as red, a string, as `two words', a list, as [% 1 2 %], `true` or `false`. Of an input x, `x whenever not iserror x` has the other lines, and `x whenever not iserror x and isint x` the integers.\n")
+line_text End n = codes "This input ends before line " ++ (decimal n ++ codes ", or that line is `eod` itself. At the last line of an input x `iseod next x` is true.\n")
 
 -- of a piece, at a point, by the values that it looked at; the element at a time is that of the line after as many lines
 abbrev pub piece_cause : Traced → (time space : ℕ) → List PlainValue → PlainTree → List ℕ

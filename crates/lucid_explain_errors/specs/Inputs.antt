@@ -1,5 +1,5 @@
 -- Inputs whose bytes are there, and a line of one as it is told.
-use Rattle.std.specs.Prelude.{ℕ, nat_le, ◌==◌, ◌&&◌, if◌then◌else◌, Bool, List, [], ◌∷◌, ◌++◌, length, map, take, find, codes, Option, Some, None, slice_get}
+use Rattle.std.specs.Prelude.{ℕ, nat_le, ◌==◌, ◌&&◌, ◌||◌, if◌then◌else◌, Bool, List, [], ◌∷◌, ◌++◌, length, map, take, find, codes, Option, Some, None, slice_get}
 use Rattle.std.specs.List.{list_any, slice_split}
 use Rattle.lucid_value.specs.Plain.{same_bytes, is_text, is_light}
 use Rattle.lucid_explain_places.specs.Shown.{shown_byte}
@@ -39,12 +39,13 @@ string_text line = codes "As a string it is written `" ++ (line ++ codes "'.\n")
 abbrev pub quoted_text : (line : List ℕ) → List ℕ
 quoted_text line = if is_quotable line then string_text line else []
 
+-- a comma (44) or a semicolon (59)
 abbrev pub has_comma : (line : List ℕ) → Bool
-has_comma line = list_any (λ b. b == 44) line
+has_comma line = list_any (λ b. b == 44 || b == 59) line
 
--- of a comma (44): the line may have more values than one
+-- of such a mark: the line may have more values than one
 abbrev pub comma_text : (line : List ℕ) → List ℕ
-comma_text line = if has_comma line then codes "A line is one value: there are no real numbers, and two columns stand in two files, or as lists, `[% 1 2 %]`, without commas.\n" else []
+comma_text line = if has_comma line then codes "A line is one value: 1200 has no comma, there are no real numbers, and two columns stand in two files, or as lists, `[% 1 2 %]`.\n" else []
 
 -- a byte order mark in front (239, 187, 191), or else a comma
 abbrev pub mark_text : (line : List ℕ) → List ℕ

@@ -192,7 +192,7 @@ pub(crate) fn put_cause(text: &mut Vec<u8>, op: Op, cause: Cause) -> Result<(), 
             b"the list has no item of this number; the first is item 0.\n",
         ),
         Cause::NoPart => text.extend_from_slice(
-            b"the string has no such part; its first byte is byte 0.\n",
+            b"the string has no such part. Its first byte is byte 0, and a part ends before the last number, which is the length at most.\n",
         ),
         Cause::NoWord => text.extend_from_slice(
             b"no word is spelt so. A word is a letter, then letters and digits, and none of `true`, `false`, `eod` and `error`.\n",

@@ -143,12 +143,14 @@ fn put_line(text: &mut Vec<u8>, traced: Traced, line: u64) -> Result<(), AllocEr
         Traced::Error => {
             put_number(text, b"Line ", line)?;
             text.extend_from_slice(
-                b" of this input is no value, or it is `error` itself. A value is an integer, as -12, a word without quotes, as red, a string, as `two words', a list, as [% 1 2 %], `true` or `false`. Of an input x, `x whenever not iserror x` has the other lines.\n",
+                b" of this input is no value, or it is `error` itself. A value is an integer, as -12, a word without quotes, as red, a string, as `two words', a list, as [% 1 2 %], `true` or `false`. Of an input x, `x whenever not iserror x` has the other lines, and `x whenever not iserror x and isint x` the integers.\n",
             )
         }
         Traced::End => {
             put_number(text, b"This input ends before line ", line)?;
-            text.extend_from_slice(b", or that line is `eod` itself.\n")
+            text.extend_from_slice(
+                b", or that line is `eod` itself. At the last line of an input x `iseod next x` is true.\n",
+            )
         }
     }
 }

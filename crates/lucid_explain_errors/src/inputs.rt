@@ -85,19 +85,19 @@ fn put_quoted(text: &mut Vec<u8>, line: &[u8]) -> Result<(), AllocError>
     Ok(())
 }
 
-// Whether a comma stands in the line.
+// Whether a comma or a semicolon stands in the line.
 fn has_comma(line: &[u8]) -> bool
     ensures { result ≡ has_comma line.now }
 {
-    line.iter().any(|byte| *byte == b',')
+    line.iter().any(|byte| *byte == b',' || *byte == b';')
 }
 
-// What is said of a comma.
+// What is said of such a mark.
 fn comma_text(line: &[u8]) -> &'static [u8]
     ensures { result.now ≡ comma_text line.now }
 {
     if has_comma(line) {
-        b"A line is one value: there are no real numbers, and two columns stand in two files, or as lists, `[% 1 2 %]`, without commas.\n"
+        b"A line is one value: 1200 has no comma, there are no real numbers, and two columns stand in two files, or as lists, `[% 1 2 %]`.\n"
     } else {
         b""
     }

@@ -16,7 +16,7 @@ struct Row {
 // The nodes of the second and the fifth source are t, a, t, a, next, +, fby; those of the third 3, f(3), x, "b", *; of the fourth u, 1, atspace, 0, u, hd,
 // sby; of the ninth 3, 1, 2, if; of the tenth 1, 0, whenever; of the next 1, 2, 3, -, attime; of the fourteenth false, 3, or; of the next t, error, t, fby;
 // of the last three two operands, and then the operator.
-static ROWS: [Row; 19] = [
+static ROWS: [Row; 21] = [
     Row {
         source: "length \"dog\"",
         certificate: "j 0 0 0 0 0 dog\nj 1 0 0 0 1 0 error\n",
@@ -51,25 +51,25 @@ static ROWS: [Row; 19] = [
         source: "t where t = a fby t + next a; end",
         certificate: "j 3 0 1 0 0 error\nj 4 0 0 0 1 0 error\nj 1 0 0 0 0 1\nj 6 0 0 0 1 2 1\nj 2 0 0 0 1 3 1\nj 5 0 0 0 2 4 1 error\nj 6 0 1 0 1 5 error\nj 0 0 1 0 1 6 error\n",
         input: Some("1\n2.50\n3\n"),
-        text: "The value at time 1 is `error`.\nt at time 1 is `error`.\na at time 1 is `error`.\np:1:28:\nt where t = a fby t + next a; end\n                           ^\nLine 2 of this input is no value, or it is `error` itself. A value is an integer, as -12, a word without quotes, as red, a string, as `two words', a list, as [% 1 2 %], `true` or `false`. Of an input x, `x whenever not iserror x` has the other lines.\nThe line is: 2.50\nAs a string it is written `2.50'.\n",
+        text: "The value at time 1 is `error`.\nt at time 1 is `error`.\na at time 1 is `error`.\np:1:28:\nt where t = a fby t + next a; end\n                           ^\nLine 2 of this input is no value, or it is `error` itself. A value is an integer, as -12, a word without quotes, as red, a string, as `two words', a list, as [% 1 2 %], `true` or `false`. Of an input x, `x whenever not iserror x` has the other lines, and `x whenever not iserror x and isint x` the integers.\nThe line is: 2.50\nAs a string it is written `2.50'.\n",
     },
     Row {
         source: "a",
         certificate: "j 0 0 0 0 0 error\n",
         input: Some("\n"),
-        text: "The value at time 0 is `error`.\na at time 0 is `error`.\np:1:1:\na\n^\nLine 1 of this input is no value, or it is `error` itself. A value is an integer, as -12, a word without quotes, as red, a string, as `two words', a list, as [% 1 2 %], `true` or `false`. Of an input x, `x whenever not iserror x` has the other lines.\nThe line is empty.\n",
+        text: "The value at time 0 is `error`.\na at time 0 is `error`.\np:1:1:\na\n^\nLine 1 of this input is no value, or it is `error` itself. A value is an integer, as -12, a word without quotes, as red, a string, as `two words', a list, as [% 1 2 %], `true` or `false`. Of an input x, `x whenever not iserror x` has the other lines, and `x whenever not iserror x and isint x` the integers.\nThe line is empty.\n",
     },
     Row {
         source: "a",
         certificate: "j 0 0 0 0 0 error\n",
         input: Some("\u{feff}1\n"),
-        text: "The value at time 0 is `error`.\na at time 0 is `error`.\np:1:1:\na\n^\nLine 1 of this input is no value, or it is `error` itself. A value is an integer, as -12, a word without quotes, as red, a string, as `two words', a list, as [% 1 2 %], `true` or `false`. Of an input x, `x whenever not iserror x` has the other lines.\nThe line is: ???1\nA byte order mark stands in front of it: save the file without it.\n",
+        text: "The value at time 0 is `error`.\na at time 0 is `error`.\np:1:1:\na\n^\nLine 1 of this input is no value, or it is `error` itself. A value is an integer, as -12, a word without quotes, as red, a string, as `two words', a list, as [% 1 2 %], `true` or `false`. Of an input x, `x whenever not iserror x` has the other lines, and `x whenever not iserror x and isint x` the integers.\nThe line is: ???1\nA byte order mark stands in front of it: save the file without it.\n",
     },
     Row {
         source: "a",
         certificate: "j 0 0 0 0 0 eod\n",
         input: None,
-        text: "The value at time 0 is `eod`, the end of data: a run ends before it.\na at time 0 is `eod`.\np:1:1:\na\n^\nThis input ends before line 1, or that line is `eod` itself.\n",
+        text: "The value at time 0 is `eod`, the end of data: a run ends before it.\na at time 0 is `eod`.\np:1:1:\na\n^\nThis input ends before line 1, or that line is `eod` itself. At the last line of an input x `iseod next x` is true.\n",
     },
     Row {
         source: "if 3 then 1 else 2 fi",
@@ -99,7 +99,19 @@ static ROWS: [Row; 19] = [
         source: "a",
         certificate: "j 0 0 0 0 0 error\n",
         input: Some("1,2\n"),
-        text: "The value at time 0 is `error`.\na at time 0 is `error`.\np:1:1:\na\n^\nLine 1 of this input is no value, or it is `error` itself. A value is an integer, as -12, a word without quotes, as red, a string, as `two words', a list, as [% 1 2 %], `true` or `false`. Of an input x, `x whenever not iserror x` has the other lines.\nThe line is: 1,2\nAs a string it is written `1,2'.\nA line is one value: there are no real numbers, and two columns stand in two files, or as lists, `[% 1 2 %]`, without commas.\n",
+        text: "The value at time 0 is `error`.\na at time 0 is `error`.\np:1:1:\na\n^\nLine 1 of this input is no value, or it is `error` itself. A value is an integer, as -12, a word without quotes, as red, a string, as `two words', a list, as [% 1 2 %], `true` or `false`. Of an input x, `x whenever not iserror x` has the other lines, and `x whenever not iserror x and isint x` the integers.\nThe line is: 1,2\nAs a string it is written `1,2'.\nA line is one value: 1200 has no comma, there are no real numbers, and two columns stand in two files, or as lists, `[% 1 2 %]`.\n",
+    },
+    Row {
+        source: "a",
+        certificate: "j 0 0 0 0 0 error\n",
+        input: Some("1;2\n"),
+        text: "The value at time 0 is `error`.\na at time 0 is `error`.\np:1:1:\na\n^\nLine 1 of this input is no value, or it is `error` itself. A value is an integer, as -12, a word without quotes, as red, a string, as `two words', a list, as [% 1 2 %], `true` or `false`. Of an input x, `x whenever not iserror x` has the other lines, and `x whenever not iserror x and isint x` the integers.\nThe line is: 1;2\nAs a string it is written `1;2'.\nA line is one value: 1200 has no comma, there are no real numbers, and two columns stand in two files, or as lists, `[% 1 2 %]`.\n",
+    },
+    Row {
+        source: "substr(`hello', 3, 6)",
+        certificate: "j 0 0 0 0 0 `hello'\nj 1 0 0 0 0 3\nj 2 0 0 0 0 6\nj 3 0 0 0 3 0 1 2 error\n",
+        input: None,
+        text: "The value at time 0 is `error`.\np:1:1:\nsubstr(`hello', 3, 6)\n^\nAt time 0 `substr` gets `hello', 3 and 6: the string has no such part. Its first byte is byte 0, and a part ends before the last number, which is the length at most.\n",
     },
     Row {
         source: "false or 3",

@@ -491,7 +491,7 @@ static DONE: [Row; 10] = [
         words: "p a=p",
         source: "hd a",
         status: Status::Done,
-        report: "The value at time 0 is `error`.\na at time 0 is `error`.\np:1:4:\nhd a\n   ^\nLine 1 of this input is no value, or it is `error` itself. A value is an integer, as -12, a word without quotes, as red, a string, as `two words', a list, as [% 1 2 %], `true` or `false`. Of an input x, `x whenever not iserror x` has the other lines.\nThe line is: hd a\nAs a string it is written `hd a'.\n",
+        report: "The value at time 0 is `error`.\na at time 0 is `error`.\np:1:4:\nhd a\n   ^\nLine 1 of this input is no value, or it is `error` itself. A value is an integer, as -12, a word without quotes, as red, a string, as `two words', a list, as [% 1 2 %], `true` or `false`. Of an input x, `x whenever not iserror x` has the other lines, and `x whenever not iserror x and isint x` the integers.\nThe line is: hd a\nAs a string it is written `hd a'.\n",
     },
     Row {
         words: "p",
