@@ -27,7 +27,7 @@ enough_text depth time =
     else codes "For time " ++ (decimal time ++ codes " that is more than the greatest --depth, 1000000.\n")
 
 abbrev pub cycle_advice : List ℕ
-cycle_advice = codes "A value of these names needs one of them at the same time or at a later one: so there may be no depth that is enough. `X fby Y` is X at time 0, and then Y of one time before; `next X` is X of one time later. So `x = 0 fby x + 1` begins with 0 and goes on.\n"
+cycle_advice = codes "A value of these names needs one of them at the same time or at a later one: so there may be no depth that is enough. `X fby Y` is X at time 0, and then Y of one time before; `next X` is X of one time later. So `x = 0 fby x + 1` begins with 0 and goes on, and `x = 0 fby 1 fby x + next x` begins with two values. In `x = 1 fby x * next n` each x has the n of its own time.\n"
 
 -- the searches, by their words
 abbrev pub is_search : List ℕ → Bool
@@ -42,7 +42,7 @@ is_call word rest = nat_lt 0 (length word) && not (is_reserved word) && begins (
 abbrev pub place_advice : (word rest : List ℕ) → List ℕ
 place_advice word rest =
     if is_search word then codes "\nHere is a search: it looks at times below the depth limit alone. If its test is never true again, no depth is enough: --count asks for the lines that there are. If it is true later:\n"
-    else if is_call word rest then codes "\nHere is a function: one that calls itself without an end has no value at any depth. An `if` that doesn't call it gives an end.\n"
+    else if is_call word rest then codes "\nHere is a function: one that calls itself without an end has no value at any depth. An `if` that doesn't call it gives an end, once its test is true: for an x below 0 that counts down, `x eq 0` never is, and `x <= 0` is.\n"
     else codes "\nSo no depth is told for this program.\n"
 
 abbrev pub unjudged_advice : (source : List ℕ) → JudgeRefusal → List ℕ

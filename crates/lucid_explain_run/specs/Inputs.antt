@@ -14,6 +14,7 @@ use Rattle.lucid_explain_run.specs.declared.inputs.Lacking.{Lacking}
 use Rattle.lucid_explain_source.specs.Accepted.{IsProgram, IsTurnedDown}
 use Rattle.lucid_explain_places.specs.Positions.{where_text}
 use Rattle.lucid_explain_source.specs.Definitions.{name_text, definition_text}
+use Rattle.lucid_explain_source.specs.Names.{has_parameter}
 use Rattle.lucid_explain_places.specs.Hints.{is_capital}
 use Rattle.lucid_explain_source.specs.Scopes.{in_scope, all_defs}
 
@@ -46,12 +47,16 @@ is_near most name other = nat_le (max (length name) (length other)) 40 && (is_al
 abbrev pub nearest : (name : List ℕ) → List Def → Option Def
 nearest name defs = option_or (find (λ d. is_near 1 name d.name) defs) (find (λ d. is_near 2 name d.name) defs)
 
--- the first definition of the name
+-- it defines the name, or a function that has it as a parameter
+abbrev pub gives_name : (name : List ℕ) → Def → Bool
+gives_name name d = same_bytes d.name name || has_parameter name d.kind
+
+-- the first definition that does so
 abbrev pub first_named : (name : List ℕ) → List Def → Option Def
-first_named name defs = find (λ d. same_bytes d.name name) defs
+first_named name defs = find (λ d. gives_name name d) defs
 
 -- The input of this number has no file among those given: its name, its first place, the definition in scope there whose name is nearest, the first
--- definition of its name anywhere, and whether it is a reserved word but for capital letters.
+-- definition anywhere that gives its name, and whether it is a reserved word but for capital letters.
 pub record IsLacking (scoped : Scoped) (given : List (List ℕ)) (stream : ℕ) (l : Lacking) : Type 0 where
   pub named : slice_get (scoped_inputs scoped) stream ≡ Some l.name.now
   pub free : Contains given l.name.now → ⊥
@@ -96,7 +101,7 @@ spelled_text source other l =
 
 -- of a definition that isn't in scope
 abbrev pub outside_advice : List ℕ
-outside_advice = codes "A definition isn't in scope outside its block, nor in the right side of an `is current`: "
+outside_advice = codes "A name is in scope in the block that defines it, and a parameter in the right side of its function. The right side of `is current` stands outside the block: what it names is defined there, behind a `where` of its own. "
 
 abbrev pub outside_text : (source : List ℕ) → Def → List ℕ
 outside_text source d = outside_advice ++ definition_text source d

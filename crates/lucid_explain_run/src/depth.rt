@@ -59,7 +59,7 @@ fn put_enough(text: &mut Vec<u8>, factor: u64, add: u64, time: u64) -> Result<()
 fn cycle_advice() -> &'static [u8]
     ensures { result.now ≡ cycle_advice }
 {
-    b"A value of these names needs one of them at the same time or at a later one: so there may be no depth that is enough. `X fby Y` is X at time 0, and then Y of one time before; `next X` is X of one time later. So `x = 0 fby x + 1` begins with 0 and goes on.\n"
+    b"A value of these names needs one of them at the same time or at a later one: so there may be no depth that is enough. `X fby Y` is X at time 0, and then Y of one time before; `next X` is X of one time later. So `x = 0 fby x + 1` begins with 0 and goes on, and `x = 0 fby 1 fby x + next x` begins with two values. In `x = 1 fby x * next n` each x has the n of its own time.\n"
 }
 
 // Whether the word is a search.
@@ -88,7 +88,7 @@ fn place_advice(word: &[u8], rest: &[u8]) -> &'static [u8]
     if is_search(word) {
         b"\nHere is a search: it looks at times below the depth limit alone. If its test is never true again, no depth is enough: --count asks for the lines that there are. If it is true later:\n"
     } else if is_call(word, rest) {
-        b"\nHere is a function: one that calls itself without an end has no value at any depth. An `if` that doesn't call it gives an end.\n"
+        b"\nHere is a function: one that calls itself without an end has no value at any depth. An `if` that doesn't call it gives an end, once its test is true: for an x below 0 that counts down, `x eq 0` never is, and `x <= 0` is.\n"
     } else {
         b"\nSo no depth is told for this program.\n"
     }

@@ -6,12 +6,14 @@ ghost use Rattle.lucid_scan.specs.Refusals.{most_source_bytes};
 ghost use Rattle.lucid_scope.specs.Scoped.{scoped_tree, scoped_inputs};
 ghost use Rattle.lucid_explain_source.specs.Accepted.{IsProgram};
 ghost use Rattle.lucid_explain_run.specs.declared.inputs.Lacking.{Lacking as Told};
-ghost use Rattle.lucid_explain_run.specs.Inputs.{StandsAt, StandsFirst, is_alike, is_edited, is_near, nearest, first_named, IsLacking, IsWanted, AreFirst, AreLacking, near_text, spelled_text, outside_text, elsewhere_text, meant_text, first_text, lacking_text, word_text, inputs_text, TellsInputs, named_text, free_text, TellsFree};
+ghost use Rattle.lucid_explain_run.specs.Inputs.{StandsAt, StandsFirst, is_alike, is_edited, is_near, nearest, gives_name, first_named, IsLacking, IsWanted, AreFirst, AreLacking, near_text, spelled_text, outside_text, elsewhere_text, meant_text, first_text, lacking_text, word_text, inputs_text, TellsInputs, named_text, free_text, TellsFree};
 ghost use Rattle.lucid_explain_source.specs.Definitions.{name_text};
 ghost use Rattle.lucid_explain_source.specs.Scopes.{lent, in_scope, all_defs};
 
 use lucid_explain_places::{is_capital, put_where};
-use lucid_explain_source::{find_everywhere, find_in_scope, put_definition, put_name, scoped_of};
+use lucid_explain_source::{
+    find_everywhere, find_in_scope, has_parameter, put_definition, put_name, scoped_of,
+};
 use lucid_scope::{Binding, Scoped};
 use lucid_tree::Def;
 use lucid_value::Name;
@@ -32,7 +34,7 @@ pub struct Lacking<'a> {
     pub at: u32,
     /// A definition in scope there whose name differs by little.
     pub near: Option<&'a Def>,
-    /// A definition of the name, which isn't in scope there.
+    /// A definition of the name, or of a function that has it as a parameter: neither is in scope there.
     pub elsewhere: Option<&'a Def>,
     /// Whether it is a reserved word but for capital letters.
     pub is_capital: bool,
@@ -149,20 +151,27 @@ fn near_of<'a>(
     Ok(near)
 }
 
-// The first definition of the name.
+// Whether this defines the name, or a function that has it as a parameter.
+fn gives_name(name: &[u8], def: &Def) -> bool
+    ensures { result ≡ gives_name name.now def.now }
+{
+    def.name.bytes() == name || has_parameter(&def.kind, name)
+}
+
+// The first definition that does so.
 #[tactic(auto, using(lucid_explain_source::proofs::Lent::find_more))]
 fn find_named<'a>(defs: &[&'a Def], name: &[u8]) -> Option<&'a Def>
     ensures { option_copied result ≡ first_named name.now (lent defs.now) }
 {
     for def in defs {
-        if def.name.bytes() == name {
+        if gives_name(name, def) {
             return Some(*def);
         }
     }
     None
 }
 
-// The first definition of the name anywhere in the tree.
+// The first of the whole tree.
 fn elsewhere_of<'a>(
     alloc: Global,
     scoped: &'a Scoped,
@@ -316,12 +325,12 @@ fn put_outside(text: &mut Vec<u8>, source: &[u8], def: &Def) -> Result<(), Alloc
     ensures { OnOk result (text.new.items ≡ text.old.items ++ outside_text source.now def.now) }
 {
     text.extend_from_slice(
-        b"A definition isn't in scope outside its block, nor in the right side of an `is current`: ",
+        b"A name is in scope in the block that defines it, and a parameter in the right side of its function. The right side of `is current` stands outside the block: what it names is defined there, behind a `where` of its own. ",
     )?;
     put_definition(text, source, def)
 }
 
-// Appends the definition of the name of an input which isn't in scope, where there is one, or else what may be meant.
+// Appends the definition that gives the name of an input out of scope, where there is one, or else what may be meant.
 fn put_elsewhere(
     text: &mut Vec<u8>,
     source: &[u8],

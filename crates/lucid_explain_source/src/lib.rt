@@ -6,7 +6,7 @@ pub use crate::characters::begins;
 pub use crate::columns::explain_columns;
 pub use crate::definitions::{put_definition, put_name};
 pub use crate::fault::Fault;
-pub use crate::names::name_front;
+pub use crate::names::{has_parameter, name_front};
 pub use crate::scopes::{find_everywhere, find_in_scope};
 pub use crate::sources::{Explanation, explain_source};
 

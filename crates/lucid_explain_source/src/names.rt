@@ -311,8 +311,8 @@ fn is_among(name: &[u8], names: &[Name]) -> bool
     false
 }
 
-// Whether the definition is a function with a parameter of the name.
-fn has_parameter(kind: &DefKind, name: &[u8]) -> bool
+/// Whether the definition is a function with a parameter of the name.
+pub fn has_parameter(kind: &DefKind, name: &[u8]) -> bool
     ensures { result ≡ has_parameter name.now kind.now }
 {
     match kind {

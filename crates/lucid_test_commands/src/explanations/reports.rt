@@ -259,7 +259,7 @@ static INPUTS: [Row; 9] = [
         words: "p",
         source: "if x then y else z where x = True; end fi",
         status: Status::Refused,
-        report: "no input for two names\nA name that nothing defines is an input. One of them may be read from the standard input; give each other a file: x=FILE y=FILE z=FILE True=FILE\nx stands first in line 1, column 4.\nA definition isn't in scope outside its block, nor in the right side of an `is current`: x is defined in line 1, column 26.\ny stands first in line 1, column 11.\nz stands first in line 1, column 18.\nTrue stands first in line 1, column 30.\nIt may be misspelt: reserved words have small letters, as `true`.\nIf a word is meant, it stands between two \", as in \"red\".\n",
+        report: "no input for two names\nA name that nothing defines is an input. One of them may be read from the standard input; give each other a file: x=FILE y=FILE z=FILE True=FILE\nx stands first in line 1, column 4.\nA name is in scope in the block that defines it, and a parameter in the right side of its function. The right side of `is current` stands outside the block: what it names is defined there, behind a `where` of its own. x is defined in line 1, column 26.\ny stands first in line 1, column 11.\nz stands first in line 1, column 18.\nTrue stands first in line 1, column 30.\nIt may be misspelt: reserved words have small letters, as `true`.\nIf a word is meant, it stands between two \", as in \"red\".\n",
     },
     Row {
         words: "p a=p a=p",
@@ -363,13 +363,13 @@ static RUNS: [Row; 7] = [
         words: "--depth 9 p",
         source: "x where x = x; end",
         status: Status::TooDeep,
-        report: "too deep at time 0\n`--cycles` says: cycle x at 8: sum 0\nA value of these names needs one of them at the same time or at a later one: so there may be no depth that is enough. `X fby Y` is X at time 0, and then Y of one time before; `next X` is X of one time later. So `x = 0 fby x + 1` begins with 0 and goes on.\n",
+        report: "too deep at time 0\n`--cycles` says: cycle x at 8: sum 0\nA value of these names needs one of them at the same time or at a later one: so there may be no depth that is enough. `X fby Y` is X at time 0, and then Y of one time before; `next X` is X of one time later. So `x = 0 fby x + 1` begins with 0 and goes on, and `x = 0 fby 1 fby x + next x` begins with two values. In `x = 1 fby x * next n` each x has the n of its own time.\n",
     },
     Row {
         words: "--depth 9 --stats p",
         source: "x where x = x; end",
         status: Status::TooDeep,
-        report: "too deep at time 0 lost 0 cleared 0\n`--cycles` says: cycle x at 8: sum 0\nA value of these names needs one of them at the same time or at a later one: so there may be no depth that is enough. `X fby Y` is X at time 0, and then Y of one time before; `next X` is X of one time later. So `x = 0 fby x + 1` begins with 0 and goes on.\nThe store wasn't cleared.\n",
+        report: "too deep at time 0 lost 0 cleared 0\n`--cycles` says: cycle x at 8: sum 0\nA value of these names needs one of them at the same time or at a later one: so there may be no depth that is enough. `X fby Y` is X at time 0, and then Y of one time before; `next X` is X of one time later. So `x = 0 fby x + 1` begins with 0 and goes on, and `x = 0 fby 1 fby x + next x` begins with two values. In `x = 1 fby x * next n` each x has the n of its own time.\nThe store wasn't cleared.\n",
     },
     Row {
         words: "--depth 1 p",
@@ -393,7 +393,7 @@ static RUNS: [Row; 7] = [
         words: "--depth 9 p",
         source: "f(1) where f(x) = x * f(x - 1); end",
         status: Status::TooDeep,
-        report: "too deep at time 0\n`--cycles` says: not judged at 0\nHere is a function: one that calls itself without an end has no value at any depth. An `if` that doesn't call it gives an end.\nA greater --depth may be enough, up to 1000000.\n",
+        report: "too deep at time 0\n`--cycles` says: not judged at 0\nHere is a function: one that calls itself without an end has no value at any depth. An `if` that doesn't call it gives an end, once its test is true: for an x below 0 that counts down, `x eq 0` never is, and `x <= 0` is.\nA greater --depth may be enough, up to 1000000.\n",
     },
 ];
 
@@ -445,7 +445,7 @@ static OTHERS: [Row; 10] = [
         words: "--why 0 p",
         source: "x where x = x; end",
         status: Status::TooDeep,
-        report: "too deep at time 0\n`--cycles` says: cycle x at 8: sum 0\nA value of these names needs one of them at the same time or at a later one: so there may be no depth that is enough. `X fby Y` is X at time 0, and then Y of one time before; `next X` is X of one time later. So `x = 0 fby x + 1` begins with 0 and goes on.\n",
+        report: "too deep at time 0\n`--cycles` says: cycle x at 8: sum 0\nA value of these names needs one of them at the same time or at a later one: so there may be no depth that is enough. `X fby Y` is X at time 0, and then Y of one time before; `next X` is X of one time later. So `x = 0 fby x + 1` begins with 0 and goes on, and `x = 0 fby 1 fby x + next x` begins with two values. In `x = 1 fby x * next n` each x has the n of its own time.\n",
     },
     Row {
         words: "--count 2 p",
@@ -555,7 +555,7 @@ fn reports_are_explained(rt: HostRuntime) -> Result<(), Fail> {
 }
 
 // What is asked, of which source, and how the report begins at a terminal; it is empty where nothing is said.
-static PROMPTS: [(&str, &str, &str); 12] = [
+static PROMPTS: [(&str, &str, &str); 13] = [
     (
         "p",
         "a",
@@ -574,7 +574,12 @@ static PROMPTS: [(&str, &str, &str); 12] = [
     (
         "p",
         "f where k is current f; f = k + 1; end",
-        "The input f is read from here, a value on each line.\nA definition isn't in scope outside its block, nor in the right side of an `is current`: f is defined in line 1, column 25.\nread fault\n",
+        "The input f is read from here, a value on each line.\nA name is in scope in the block that defines it, and a parameter in the right side of its function. The right side of `is current` stands outside the block: what it names is defined there, behind a `where` of its own. f is defined in line 1, column 25.\nread fault\n",
+    ),
+    (
+        "p",
+        "f(1) where f(x) = y + 1; y = x * x; end",
+        "The input x is read from here, a value on each line.\nA name is in scope in the block that defines it, and a parameter in the right side of its function. The right side of `is current` stands outside the block: what it names is defined there, behind a `where` of its own. f(x) is defined in line 1, column 12.\nread fault\n",
     ),
     (
         "p",
