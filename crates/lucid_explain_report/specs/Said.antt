@@ -152,6 +152,12 @@ abbrev pub is_number_option : (option : List ℕ) → Bool
 is_number_option option =
     same_bytes option (codes "--count") || same_bytes option (codes "--depth") || same_bytes option (codes "--age") || same_bytes option (codes "--room")
 
+-- an option of `lucid_show` alone
+abbrev pub is_shown_option : (option : List ℕ) → Bool
+is_shown_option option =
+    same_bytes option (codes "--at") || same_bytes option (codes "--as") || same_bytes option (codes "--names") || same_bytes option (codes "--cells")
+    || same_bytes option (codes "--steps")
+
 -- with these bytes the dashes begin that stand for two minus signs in typeset text
 abbrev pub dash_bytes : List ℕ
 dash_bytes = 226 ∷ 128 ∷ []
@@ -172,6 +178,7 @@ word_advice word =
     else if stands_alone word then codes "`--help` and `--version` stand alone, as in `lucid_explain --help`.\n"
     else if is_number_option (option_of word) then codes "This option has a number from 1 to 1000000, in digits alone, and is given once at most.\n"
     else if same_bytes (option_of word) (codes "--policy") then codes "The policies are keep, none, age and last, and the option is given once at most.\n"
+    else if is_shown_option (option_of word) then codes "This is an option of `lucid_show`, which shows how values are computed.\n"
     else if begins word (codes "-") then codes "The line above has the options, each of which is given once at most; of --print, --columns, --cycles, --why, --check, --flat and --from-flat one alone is given. --columns has names with commas between them, as n,m, and --why a time.\n"
     else argument_advice word
 

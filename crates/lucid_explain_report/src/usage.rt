@@ -2,7 +2,7 @@
 ghost use Rattle.std.specs.Prelude.{◌≡◌, ℕ, ◌<◌, ◌≤◌, ◌+◌, ◌++◌, length, min, map, take, true, false, not, ◌==◌, IfOk, IfSome, IfNone, OnOk};
 ghost use Rattle.std.specs.String.{string_bytes};
 ghost use Rattle.std.specs.List.{prefix_len};
-ghost use Rattle.lucid_explain_report.specs.Said.{goes_on, is_right_with, option_of, is_number_option, argument_advice, stands_alone, word_advice, wrong_text, texts_of, SaysWords};
+ghost use Rattle.lucid_explain_report.specs.Said.{goes_on, is_right_with, option_of, is_number_option, is_shown_option, argument_advice, stands_alone, word_advice, wrong_text, texts_of, SaysWords};
 
 use crate::faults::put_front;
 use lucid_explain_source::begins;
@@ -100,6 +100,17 @@ fn is_number_option(option: &[u8]) -> bool
         || option == b"--room".as_slice()
 }
 
+// Whether this is an option of `lucid_show` alone.
+fn is_shown_option(option: &[u8]) -> bool
+    ensures { result ≡ is_shown_option option.now }
+{
+    option == b"--at".as_slice()
+        || option == b"--as".as_slice()
+        || option == b"--names".as_slice()
+        || option == b"--cells".as_slice()
+        || option == b"--steps".as_slice()
+}
+
 // What is said of a word that is no option.
 fn argument_advice(word: &[u8]) -> &'static [u8]
     ensures { result.now ≡ argument_advice word.now }
@@ -131,6 +142,8 @@ fn word_advice(word: &[u8]) -> &'static [u8]
         b"This option has a number from 1 to 1000000, in digits alone, and is given once at most.\n"
     } else if option == b"--policy".as_slice() {
         b"The policies are keep, none, age and last, and the option is given once at most.\n"
+    } else if is_shown_option(option) {
+        b"This is an option of `lucid_show`, which shows how values are computed.\n"
     } else if begins(word, b"-") {
         b"The line above has the options, each of which is given once at most; of --print, --columns, --cycles, --why, --check, --flat and --from-flat one alone is given. --columns has names with commas between them, as n,m, and --why a time.\n"
     } else {
