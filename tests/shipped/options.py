@@ -109,9 +109,22 @@ def statuses_are_those_of_the_manual(run):
     check(statuses == manual, f"docs/LANGUAGE.md has {shown(statuses)}, and the manual {shown(manual)}")
 
 
+def reports_of_manual(run):
+    return {it.rstrip(" .") for it, _ in items(part_of_manual(run, ".Sh DIAGNOSTICS"))}
+
+
 @case
 def reports_are_those_of_the_manual(run):
     cells = " ".join(cells[2] for cells in rows_of_language(run, "status"))
     reports = {it for it in re.findall(r"`([^`]+)`", cells) if re.match(r"\w+[ :]", it)}
-    manual = {it.rstrip(" .") for it, _ in items(part_of_manual(run, ".Sh DIAGNOSTICS"))}
+    manual = reports_of_manual(run)
     check(reports == manual, f"one alone of docs/LANGUAGE.md and the manual has {shown(sorted(reports ^ manual))}")
+
+
+@case
+def each_report_has_a_heading_among_the_explanations(run):
+    headings = [it for it in page(run, "docs/ERRORS.md").splitlines() if it.startswith("## ")]
+    told = {it for line in headings for it in spans(line)}
+    told |= {"usage:"} if any(it.startswith("## usage") for it in headings) else set()
+    lost = reports_of_manual(run) - told
+    check(not lost, f"docs/ERRORS.md has no heading of {shown(sorted(lost))}")

@@ -18,7 +18,8 @@ text. Where the line above a program has a call in code, as `lucid --count=3 pro
 Where it has a link to a file of examples/, the program is that file's, but for the comment that the file begins with.
 
 Tables whose columns have these names are run too, a row a program: `source`, `words`, `output` and `status`; `example` and `its
-values`, of the streams `n` and `p`; `example` and `value`; `program` and `line`, of `--cycles`.
+values`, of the streams `n` and `p`; `example` and `value`; `program` and `line`, of `--cycles`; `as in` and `the hint`, of programs and
+definitions that are refused, where the first cell is code alone.
 """
 import json
 import os
@@ -30,6 +31,7 @@ from itertools import zip_longest
 
 from harness import Case, Failed, Skipped, check, lines, shown
 
+CODE = r"(`+) ?(.*?) ?\1(?!`)"
 STREAMS = " where n = 0 fby n + 1; p = true fby false fby p; end"
 
 
@@ -207,19 +209,24 @@ def first_other(text, other):
 
 def spans(cell):
     """The texts in code in a cell."""
-    return [text for _, text in re.findall(r"(`+) ?(.*?) ?\1(?!`)", cell)]
+    return [text for _, text in re.findall(CODE, cell)]
+
+
+def is_code(cell):
+    """Whether a cell is code alone, with `, ` between its texts."""
+    return not re.sub(CODE, "", cell).strip(", ")
 
 
 def plain(cell):
     """A cell's text, without the marks of code."""
-    return re.sub(r"(`+) ?(.*?) ?\1(?!`)", r"\2", cell).strip()
+    return re.sub(CODE, r"\2", cell).strip()
 
 
 def values_of(cell):
     """The values of a list that is parted by `, `, where a value may itself stand in code."""
     kept, text = [], cell
-    for _, code in re.findall(r"(`+) ?(.*?) ?\1(?!`)", cell):
-        text = re.sub(r"(`+) ?(.*?) ?\1(?!`)", f"\0{len(kept)}\0", text, count=1)
+    for _, code in re.findall(CODE, cell):
+        text = re.sub(CODE, f"\0{len(kept)}\0", text, count=1)
         kept.append(code)
     return [re.sub("\0(\\d+)\0", lambda at: kept[int(at[1])], it.strip()) for it in text.split(",")]
 
@@ -284,11 +291,21 @@ def row_of_runs(run, row):
     run.lucid(*words).must(out, int(plain(row["status"])), report)
 
 
+def row_of_hints(run, row):
+    """Slips, which are programs, or definitions where they end with `;`: the hint of each, or that of all."""
+    slips, hints = spans(row["as in"]), re.split(r"(?<=\.)`, `", row["the hint"].removeprefix("`").removesuffix("`"))
+    for slip, hint in zip(slips, hints * (len(slips) // len(hints)), strict=True):
+        run.source(f"n where {slip} end" if slip.endswith(";") else slip)
+        ended = run.explaining().lucid("p").must("", 1)
+        check(ended.report.endswith(f"\n{hint}\n".encode()), f"{slip}: {shown(ended.report)}")
+
+
 KINDS = [
     ({"source", "words", "output", "status"}, row_of_runs),
     ({"example", "its values"}, row_of_forms),
     ({"example", "value"}, row_of_operators),
     ({"program", "line"}, row_of_cycles),
+    ({"as in", "the hint"}, row_of_hints),
 ]
 
 
@@ -298,6 +315,8 @@ def rows(name, page):
     for (_, names), *body in tables(page):
         works = [work for columns, work in KINDS if columns <= set(names)]
         for number, cells in body if works else ():
+            if works[0] is row_of_hints and not is_code(cells[0]):
+                continue  # told in words
             row = dict(zip(names, cells))
             found.append(Case(f"{name} line {number} of a table", lambda run, row=row, work=works[0]: work(run, row)))
     return found
