@@ -159,7 +159,8 @@ impl Warehouse {
         self.datons.value(index)
     }
 
-    // Touches a key, if it is held, and gives its place.
+    // Touches a key, if it is held, and gives its place. Inlined for the same reason as `get` below, the one that calls it.
+    #[inline(always)]
     fn touch(&mut self, key: Key) -> Option<usize>
         ensures after { IsTouched self.old self.new key }
         ensures value { option_and_then (value_in self.new.entries) result ≡ value_at self.old key }
