@@ -156,6 +156,55 @@ def a_run_of_20_lines_may_have_more(run):
     run.explaining().lucid("p", "--count=20").must(lines(*range(20)), 0, "")
 
 
+LIST = "[% n m %] where m = n * n; n = 0 fby n + 1; end"
+SUM = "s where s = x fby s + x; x = 1 fby x + 2; end"
+BLOCK = "f where f = r asa c eq 0 where c = n fby c - 1; r = 1 fby r * c; end; n = 3 fby n + 1; end"
+
+# Sources, what two lines of each are, where something is noted of it, and what that is.
+NOTED = [
+    (LIST, lines("[% n m %]", "[% n m %]"), 1, "A list between [% and %] has constants: m in it is the word m. Of computed items it is `x :: y :: []`.\n"),
+    (
+        SUM,
+        lines(1, 2),
+        9,
+        "Behind `fby` stands the value for the next time, made of values of this time. If x of that next time is meant, write `next x` there.\n",
+    ),
+    (
+        BLOCK,
+        lines(6, 6),
+        15,
+        "`asa` gives one value for all times. A block that is to begin anew at each time has `k is current n;`, and then k in place of n.\n",
+    ),
+]
+
+
+@case
+def what_is_mostly_not_meant_is_noted(run):
+    for source, output, column, said in NOTED:
+        run.source(source)
+        shown_there = f"p:1:{column}:\n{source}\n" + " " * (column - 1) + "^\n"
+        run.explaining().lucid("p", "--count=2").must(output, 0, shown_there + said)
+
+
+@case
+def what_is_meant_is_not_noted(run):
+    run.source("n :: m :: [] where m = n * n; n = 0 fby n + 1; end")
+    run.explaining().lucid("p", "--count=2").must(lines("[% 0 0 %]", "[% 1 1 %]"), 0, "")
+    run.source(SUM.replace("s + x", "s + next x"))
+    run.explaining().lucid("p", "--count=2").must(lines(1, 4), 0, "")
+    run.source(BLOCK.replace("c = n", "k is current n; c = k"))
+    run.explaining().lucid("p", "--count=2").must(lines(6, 24), 0, "")
+
+
+@case
+def of_a_long_source_nothing_is_noted(run):
+    run.source(LIST + " " * (4096 - len(LIST)))
+    ended = run.explaining().lucid("p", "--count=1").must(lines("[% n m %]"), 0)
+    check(ended.report.startswith(b"p:1:1:\n"), shown(ended.report))
+    run.source(LIST + " " * (4097 - len(LIST)))
+    run.explaining().lucid("p", "--count=1").must(lines("[% n m %]"), 0, "")
+
+
 @case
 def the_greatest_depth_is_known(run):
     run.source("1 asa false")

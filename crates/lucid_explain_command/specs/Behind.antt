@@ -1,10 +1,12 @@
 -- Of what more is said behind a call.
-use Rattle.std.specs.Prelude.{◌≡◌, ℕ, ◌==◌, nat_eq, Bool, if◌then◌else◌, List, [], codes, Option, Some, None}
+use Rattle.std.specs.Prelude.{◌≡◌, ℕ, ◌==◌, nat_eq, Bool, true, false, ◌&&◌, not, is_none, if◌then◌else◌, List, [], codes, Option, Some, None}
 use Rattle.std.specs.List.{list_any, starts_with}
 use Rattle.clap.specs.Words.{Text}
 use Rattle.lucid_words.specs.Asked.{PlainWords, words_asked}
 use Rattle.lucid_report.specs.declared.status.Status.{Status}
 use Rattle.lucid_report.specs.declared.status.Status.TheVariants as status
+use Rattle.lucid_explain_report.specs.Said.{name_in}
+use Rattle.lucid_explain_report.specs.Notes.{TellsNote}
 use Rattle.lucid_explain_command.specs.Noting.{Seen}
 use Rattle.lucid_explain_command.specs.declared.behind.Behind.{Behind}
 use Rattle.lucid_explain_command.specs.declared.behind.Behind.TheVariants as behind
@@ -26,6 +28,14 @@ first_or None other = other
 abbrev pub behind_of : Status → Seen → Behind
 behind_of s seen = first_or seen.first (done_behind s seen.lines)
 
+-- A call that ended so wrote lines, and none that is `error`.
+abbrev pub wrote_lines : Status → (lines : ℕ) → Bool
+wrote_lines status.Done n = not (n == 0)
+wrote_lines _ n = false
+
+abbrev pub wrote_values : Status → Seen → Bool
+wrote_values s seen = is_none seen.first && wrote_lines s seen.lines
+
 -- one of the words is `--count`, or begins so
 abbrev pub has_count : (words : List Text) → Bool
 has_count words = list_any (λ word. starts_with nat_eq word (codes "--count")) words
@@ -40,3 +50,12 @@ count_said asked = if asks_lines asked then count_text else []
 pub data SaysCount (words : List Text) (text : List ℕ) : Type 0 where
   refused_words : words_asked words ≡ None → text ≡ [] → SaysCount words text
   read : (asked : PlainWords) → words_asked words ≡ Some asked → text ≡ count_said asked → SaysCount words text
+
+-- what is noted of the source, where lines of values are asked for
+abbrev pub NotesOf : (of_lines : Bool) → PlainWords → (source text : List ℕ) → Type 0
+NotesOf true asked source text = TellsNote (name_in asked.source) source text
+NotesOf false asked source text = text ≡ []
+
+pub data SaysNote (words : List Text) (source text : List ℕ) : Type 0 where
+  no_words : words_asked words ≡ None → text ≡ [] → SaysNote words source text
+  words_read : (asked : PlainWords) → words_asked words ≡ Some asked → NotesOf (asks_lines asked) asked source text → SaysNote words source text

@@ -3,10 +3,12 @@ ghost use Rattle.std.specs.Prelude.{◌≡◌, map, IfOk};
 ghost use Rattle.std.specs.String.{string_bytes};
 ghost use Rattle.lucid_words.specs.Asked.{plain_words, words_asked};
 ghost use Rattle.lucid_explain_command.specs.Noting.{plain_noted};
-ghost use Rattle.lucid_explain_command.specs.Behind.{lines_behind, done_behind, behind_of, has_count, count_said, SaysCount};
+ghost use Rattle.lucid_explain_command.specs.Prompted.{asks_lines};
+ghost use Rattle.lucid_explain_command.specs.Behind.{lines_behind, done_behind, behind_of, wrote_lines, wrote_values, has_count, count_said, SaysCount, NotesOf, SaysNote};
 
 use crate::noted::Noted;
 use crate::prompt::asks_lines;
+use lucid_explain_report::explain_note;
 use lucid_report::Status;
 use lucid_words::{Words, WordsRefusal, read_words};
 use std::alloc::{AllocError, Global};
@@ -57,6 +59,23 @@ pub(crate) fn behind_of(status: Status, noted: Noted) -> Behind
     }
 }
 
+// Whether a call that ended so wrote lines.
+fn wrote_lines(status: Status, lines: u64) -> bool
+    ensures { result ≡ wrote_lines status lines }
+{
+    match status {
+        Status::Done => lines != 0,
+        _ => false,
+    }
+}
+
+/// Whether a call that ended so wrote lines, and none that is `error`.
+pub(crate) fn wrote_values(status: Status, noted: Noted) -> bool
+    ensures { result ≡ wrote_values status (plain_noted noted) }
+{
+    noted.first.is_none() && wrote_lines(status, noted.lines)
+}
+
 /// Whether one of the words is `--count`, or begins so.
 pub(crate) fn has_count(words: &[String]) -> bool
     ensures { result ≡ has_count (map string_bytes words.now) }
@@ -83,6 +102,32 @@ pub(crate) fn text_of_count(alloc: Global, words: &[String]) -> Result<Vec<u8>, 
 {
     match read_words(alloc, words) {
         Ok(asked) => Vec::from_slice(alloc, count_said(&asked)),
+        Err(WordsRefusal::Usage) => Ok(Vec::new(alloc)),
+        Err(WordsRefusal::NoMemory) => Err(AllocError),
+    }
+}
+
+// What is noted of the source of a call with words that were read.
+fn note_of_call(alloc: Global, asked: &Words, source: &[u8]) -> Result<Vec<u8>, AllocError>
+    ensures { IfOk result (λ text. NotesOf (asks_lines (plain_words asked.now)) (plain_words asked.now) source.now text.items) }
+{
+    if asks_lines(asked) {
+        explain_note(alloc, asked, source)
+    } else {
+        Ok(Vec::new(alloc))
+    }
+}
+
+/// What is noted of the source that a call with these words read, which wrote values.
+pub(crate) fn text_of_note(
+    alloc: Global,
+    words: &[String],
+    source: &[u8],
+) -> Result<Vec<u8>, AllocError>
+    ensures { IfOk result (λ text. SaysNote (map string_bytes words.now) source.now text.items) }
+{
+    match read_words(alloc, words) {
+        Ok(asked) => note_of_call(alloc, &asked, source),
         Err(WordsRefusal::Usage) => Ok(Vec::new(alloc)),
         Err(WordsRefusal::NoMemory) => Err(AllocError),
     }

@@ -8,11 +8,11 @@ ghost use Rattle.lucid_report.specs.Telling.{WritesLine};
 ghost use Rattle.lucid_explain_command.specs.Prompted.{IsPrompt};
 ghost use Rattle.lucid_explain_command.specs.Keeping.{plain_kept, remembered};
 ghost use Rattle.lucid_explain_command.specs.Noting.{plain_noted};
-ghost use Rattle.lucid_explain_command.specs.Behind.{has_count, SaysCount};
+ghost use Rattle.lucid_explain_command.specs.Behind.{has_count, SaysCount, wrote_values, SaysNote};
 ghost use Rattle.lucid_explain_command.specs.Errors.{SaysError};
-ghost use Rattle.lucid_explain_command.specs.Explained.{unsaid_text, or_unsaid, Writes, WritesText, Prompts, wants_memory, cut_status, ReportsExplanation, ReportsStop, ReportsCause, Reports, ReportsCount, ReportsBehind, IsExplained};
+ghost use Rattle.lucid_explain_command.specs.Explained.{unsaid_text, or_unsaid, Writes, WritesText, Prompts, wants_memory, cut_status, ReportsExplanation, ReportsStop, ReportsCause, Reports, ReportsCount, ReportsBehind, ReportsNote, IsExplained};
 
-use crate::behind::{Behind, behind_of, has_count, text_of_count};
+use crate::behind::{Behind, behind_of, has_count, text_of_count, text_of_note, wrote_values};
 use crate::errors::text_of_error;
 use crate::help::HELP;
 use crate::prompt::text_of_prompt;
@@ -230,10 +230,28 @@ fn report_behind<E: Sink, F: Outlook>(
     }
 }
 
+// Reports what is noted of the source, or that there was no memory for it.
+fn report_noted<E: Sink>(alloc: Global, called: &Called<'_>, report: &mut E)
+    ensures { WritesText (SaysNote (map string_bytes called.now.words.now) called.now.source.now) (told E.written E.faults E.late report.old) (told E.written E.faults E.late report.new) }
+{
+    let text = text_of_note(alloc, called.words, called.source);
+    report_text(report, text);
+}
+
+// Does so where the call wrote values.
+fn report_note<E: Sink>(alloc: Global, called: &Called<'_>, has_values: bool, report: &mut E)
+    ensures { ReportsNote (map string_bytes called.now.words.now) called.now.source.now has_values (told E.written E.faults E.late report.old) (told E.written E.faults E.late report.new) }
+{
+    if has_values {
+        report_noted(alloc, called, report);
+    }
+}
+
 /// Does what the command does with these words, and answers its status. It reports the command's line, and behind it what explains how the call ended,
 /// by what it read of its source. Where the standard input is a terminal, it says before the call which input is read from there, for which the
 /// program's file may be read once more. Behind a run that wrote `error`, or that is done and wrote no line, it says where the value came from, for
-/// which files of inputs are read again; and behind 20 lines, where no count is given, that there may be more.
+/// which files of inputs are read again; and behind 20 lines, where no count is given, that there may be more. Behind a run that wrote values it says what
+/// is noted of the source.
 pub fn lucid_explain<P: Places, K: Sink, E: Sink, F: Outlook>(
     alloc: Global,
     words: &[String],
@@ -255,8 +273,10 @@ pub fn lucid_explain<P: Places, K: Sink, E: Sink, F: Outlook>(
         source: places.read(),
     };
     let status = report_call(alloc, &called, &outcome, outlook, report);
-    let behind = behind_of(status, out.noted());
+    let noted = out.noted();
+    let behind = behind_of(status, noted);
     report_behind(alloc, &called, behind, outlook, report);
+    report_note(alloc, &called, wrote_values(status, noted), report);
     status
 }
 

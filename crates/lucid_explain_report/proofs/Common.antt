@@ -2,7 +2,7 @@
 pub use Rattle.lucid_explain_report.specs.Said.{IsExplanation, Says, SaysWords, names_given}
 pub use Rattle.lucid_words.specs.Asked.{plain_words}
 pub use Rattle.lucid_words.specs.Plain.{plain_given}
-pub use Rattle.std.proofs.Common.{List, ap, append_assoc, map, sym, take, ℕ, ◌++◌, ◌∙◌, ◌≡◌}
+pub use Rattle.std.proofs.Common.{List, ap, append_assoc, length, map, sym, take, ℕ, ◌++◌, ◌∙◌, ◌≡◌}
 pub use Rattle.std.proofs.lemmas.List.{take_min}
 pub use Rattle.std.proofs.lemmas.Result.{IfOk-weaker, on_ok_weaker}
 pub use Rattle.std.specs.Prelude.{codes}

@@ -2,3 +2,4 @@ pub mod Files
 pub mod Stops
 pub mod Causes
 pub mod Said
+pub mod Notes

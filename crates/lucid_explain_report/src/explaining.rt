@@ -20,8 +20,8 @@ use lucid_report::Stop;
 use lucid_words::{Source, Words, WordsRefusal, read_words};
 use std::alloc::{AllocError, Global};
 
-// The name of the source's file; a made program has none.
-fn name_of(source: &Source) -> &[u8]
+/// The name of the source's file; a made program has none.
+pub(crate) fn name_of(source: &Source) -> &[u8]
     ensures { result.now ≡ name_in (plain_source source.now) }
 {
     match source {

@@ -531,6 +531,82 @@ static DONE: [Row; 10] = [
     },
 ];
 
+// Runs of whose source something is noted, and their neighbours, of which nothing is.
+static NOTED: [Row; 12] = [
+    Row {
+        words: "--count 2 p",
+        source: "[% n m %] where m = n * n; n = 0 fby n + 1; end",
+        status: Status::Done,
+        report: "p:1:1:\n[% n m %] where m = n * n; n = 0 fby n + 1; end\n^\nA list between [% and %] has constants: m in it is the word m. Of computed items it is `x :: y :: []`.\n",
+    },
+    Row {
+        words: "p",
+        source: "[% n m %] where m = n * n; n = 0 fby n + 1; end",
+        status: Status::Done,
+        report: "A run writes 20 lines where no count is given: with --count N it writes N, 1000000 at most.\np:1:1:\n[% n m %] where m = n * n; n = 0 fby n + 1; end\n^\nA list between [% and %] has constants: m in it is the word m. Of computed items it is `x :: y :: []`.\n",
+    },
+    Row {
+        words: "--count 2 p",
+        source: "[% k `n n' 1 %] where n = 1; end",
+        status: Status::Done,
+        report: "",
+    },
+    Row {
+        words: "--count 2 p",
+        source: "[% k %] where n = 1; end",
+        status: Status::Done,
+        report: "",
+    },
+    Row {
+        words: "--print p",
+        source: "[% n m %] where m = n * n; n = 0 fby n + 1; end",
+        status: Status::Done,
+        report: "",
+    },
+    Row {
+        words: "--count 2 p",
+        source: "s where s = x fby s + x; x = 1 fby x + 2; end",
+        status: Status::Done,
+        report: "p:1:9:\ns where s = x fby s + x; x = 1 fby x + 2; end\n        ^\nBehind `fby` stands the value for the next time, made of values of this time. If x of that next time is meant, write `next x` there.\n",
+    },
+    Row {
+        words: "--count 2 p",
+        source: "s where s = x fby s + next x; x = 1 fby x + 2; end",
+        status: Status::Done,
+        report: "",
+    },
+    Row {
+        words: "--count 2 p",
+        source: "s where s = x fby s + 1; x = 1 fby x + 2; end",
+        status: Status::Done,
+        report: "",
+    },
+    Row {
+        words: "--count 2 p",
+        source: "a where a = r asa r > 0 where k is current n; r = k fby r + k; end; n = 1 fby n + 1; end",
+        status: Status::Done,
+        report: "",
+    },
+    Row {
+        words: "--count 2 p",
+        source: "f where f = r asa c eq 0 where c = n fby c - 1; r = 1 fby r * c; end; n = 3 fby n + 1; end",
+        status: Status::Done,
+        report: "p:1:15:\nf where f = r asa c eq 0 where c = n fby c - 1; r = 1 fby r * c; end; n = 3 fby n + 1; end\n              ^\n`asa` gives one value for all times. A block that is to begin anew at each time has `k is current n;`, and then k in place of n.\n",
+    },
+    Row {
+        words: "--count 2 p",
+        source: "f where f = r asa c eq 0 where k is current n; c = k fby c - 1; r = 1 fby r * c; end; n = 3 fby n + 1; end",
+        status: Status::Done,
+        report: "",
+    },
+    Row {
+        words: "--count 2 p",
+        source: "r asa c > 3 where c = m fby c + 1; m = 1; r = 0 fby r + c; end",
+        status: Status::Done,
+        report: "",
+    },
+];
+
 // Whether the row is told so.
 fn is_told(alloc: Global, row: &Row) -> Result<bool, AllocError> {
     let answer = plain_call(alloc, row.words, row.source.as_bytes())?;
@@ -557,7 +633,8 @@ fn reports_are_explained(rt: HostRuntime) -> Result<(), Fail> {
     each_passes(alloc, &WORDS)?;
     each_passes(alloc, &RUNS)?;
     each_passes(alloc, &OTHERS)?;
-    each_passes(alloc, &DONE)
+    each_passes(alloc, &DONE)?;
+    each_passes(alloc, &NOTED)
 }
 
 // What is asked, of which source, and how the report begins at a terminal; it is empty where nothing is said.

@@ -1,4 +1,4 @@
-use Rattle.std.proofs.Common.{List, Bool, length, map, sym, subst, ◌∙◌, ◌==◌}
+use Rattle.std.proofs.Common.{Bool, map, sym, subst, ◌∙◌}
 use Rattle.std.specs.String.{string_bytes}
 use Rattle.lucid_explain_report.specs.Said.{IsExplanation}
 use Rattle.lucid_explain_command.proofs.Common.{told}
