@@ -199,8 +199,7 @@ def what_is_meant_is_not_noted(run):
 @case
 def of_a_long_source_nothing_is_noted(run):
     run.source(LIST + " " * (4096 - len(LIST)))
-    ended = run.explaining().lucid("p", "--count=1").must(lines("[% n m %]"), 0)
-    check(ended.report.startswith(b"p:1:1:\n"), shown(ended.report))
+    run.explaining().lucid("p", "--count=1").must(lines("[% n m %]"), 0, f"p:1:1:\n{LIST:160}\n^\n" + NOTED[0][3])
     run.source(LIST + " " * (4097 - len(LIST)))
     run.explaining().lucid("p", "--count=1").must(lines("[% n m %]"), 0, "")
 
