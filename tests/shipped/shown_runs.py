@@ -86,12 +86,13 @@ writes 1   (3 computed, 0 found)
 
 @case
 def a_call_has_a_context(run):
+    # the second x is asked for when the first has its value
     run.source("n where n = twice(3); twice(x) = x + x; end")
     run.showing().lucid("--steps", "--count=1", "p").must("""asks for the value at 0
   computes x at 0 in context 1: 3
-  computes again x at 0 in context 1: 3
+  finds x at 0 in context 1: 3
   computes twice at 0 in context 1: 6
-writes 6   (3 computed, 0 found)
+writes 6   (2 computed, 1 found)
 """ + UNSEEN)
 
 

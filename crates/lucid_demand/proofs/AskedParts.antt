@@ -1,6 +1,6 @@
 -- A task that may be asked for, for a part or as the root: it may be where more contexts are known, where a key was looked up and where the
 -- point moved on; and it has its value at once, or a row, or is refused.
-use Rattle.lucid_demand.proofs.Common.{ℕ, suc, inl, inr, List, [], Option, None, refl, sym, ap, ◌∙◌, subst, arith, IsErrAnd, Value, plain, In, Elements, Context, IsKnown, IsOneForOne, KeepsKnown, Key, Task, TaskRow, Got, Stored, IsTouched, Noted, World, Table, PlainTask, DatonAt, plain_task, plain_key, rank, moved, RefersTo, passed, passed_contexts, StandsFor, EngineView, known_elements, holding, MayHave, Demand, stays, IsEntered, IsWanted, Remembers, Waits, at_it, at_another, task_as_tags_grow, all_rows_as_tags_grow, stands-itself, passed-stands, too_deep-is_right, owns_enters, cost_of, GoesDown, Evaluating, Stepped, cost, CanAsk, Enters, SetsPart, IsFor, MayAskFor, MayAskNow, MayRefer, AsksIn, DemandIn, OnTooLarge, IsTurned, DemandFault, TooDeep, ReadFault, NoMemory, OnOk}
+use Rattle.lucid_demand.proofs.Common.{ℕ, suc, inl, inr, List, [], Option, None, refl, sym, ap, ◌∙◌, subst, arith, IsErrAnd, Value, plain, In, Elements, Context, IsKnown, IsOneForOne, KeepsKnown, Key, Task, TaskRow, Got, Stored, IsTouched, Noted, World, Table, PlainTask, DatonAt, plain_task, plain_key, rank, moved, RefersTo, passed, passed_contexts, StandsFor, EngineView, known_elements, holding, MayHave, Demand, stays, IsEntered, IsWanted, Remembers, Waits, at_it, at_another, task_as_tags_grow, all_rows_as_tags_grow, stands-itself, passed-stands, too_deep-is_right, owns_enters, cost_of, GoesDown, Evaluating, Stepped, cost, CanAsk, Enters, SetsPart, IsFor, MayAskFor, MayAskNow, MayRefer, AsksIn, HoldsNothing, Owns, DemandIn, OnTooLarge, IsTurned, DemandFault, TooDeep, ReadFault, NoMemory, OnOk}
 use Rattle.std.proofs.Common.{◌≡◌, ◌<◌, ◌≤◌, ◌⊎◌, Some}
 use Rattle.std.specs.Prelude.{IfSome, Result, Ok, Err, length, option_map}
 use Rattle.lucid_tasks.specs.declared.Part.{Part}
@@ -14,6 +14,7 @@ use Rattle.lucid_demand_steps.proofs.NewRows.{standing-is_wanted}
 use Rattle.lucid_demand_steps.proofs.Answering.{constant-answers}
 use Rattle.lucid_demand_steps.proofs.Acting.{cost_as_tags_grow, asks_goes_down, gives_goes_down, begins_waiting}
 use Rattle.lucid_demand_steps.specs.Parts.{IsTask}
+use Rattle.lucid_demand.specs.Naming.{MayHaveRow}
 use Rattle.lucid_demand.proofs.GrownTags.{entered_by_root, way_is_entered, waits_grow, nothing_grown}
 use Rattle.lucid_demand.proofs.SettledRows.{changed_row, on_going}
 use Rattle.lucid_demand.proofs.TouchedKeys.{held_as_before, owns_touched, waits_touched}
@@ -46,6 +47,23 @@ for_touched : (d : Demand) (e : Evaluating) (w : World) (stored : Stored) (key :
 for_touched d e w stored key touched None x n f = f
 for_touched d e w stored key touched (Some part) x n f = record {
   waits = waits_touched d e.engine w stored key f.waits.going.owns touched e.rows f.waits;
+  parent = f.parent;
+  there = f.there;
+  free = f.free;
+  few = f.few;
+  task = f.task;
+  is_part = f.is_part;
+  stands = f.stands;
+  least_rank = f.least_rank;
+}
+
+-- where the policy had its turn,
+for_turned : (d : Demand) (e : Evaluating) (w : World) (now : EngineView) → IsTurned e.engine now → (part : Option Part) (x : PlainTask) (n : ℕ)
+    → IsFor d e w part x n
+    → IsFor d (record { engine = record e.engine { stored = now.stored; noted = now.noted }; rows = e.rows }) w part x n
+for_turned d e w now turned None x n f = f
+for_turned d e w now turned (Some part) x n f = record {
+  waits = subst (λ z. Waits d z w e.rows) turned.only (waits_turned d e.engine now w f.waits.going.owns turned e.rows f.waits);
   parent = f.parent;
   there = f.there;
   free = f.free;
@@ -123,6 +141,18 @@ module _ (d : Demand) (e : Evaluating) (w : World) (part : Option Part) (x : Tas
     is_for = for_touched d e w stored key touched part task n m.is_for;
   }
 
+  -- where the policy had its turn,
+  pub may_ask_turned : (now : EngineView) → IsTurned e.engine now
+      → MayAskFor d (record { engine = record e.engine { stored = now.stored; noted = now.noted }; rows = e.rows }) w part x n
+  may_ask_turned now turned = record {
+    demand = m.demand;
+    owns = subst (λ z. Owns d z w) turned.only (owns_turned d e.engine now w m.owns turned);
+    nothing = subst (λ z. HoldsNothing d z) turned.only ((emptied_turn d e.engine now w m.owns turned).nothing);
+    wanted = m.wanted;
+    tag = m.tag;
+    is_for = for_turned d e w now turned part task n m.is_for;
+  }
+
   -- and as those on the way of its moves,
   pub may_ask_on_way : (known : List Context) → KeepsKnown e.engine.known known → IsOneForOne known
       → ((c : Context) → In c known → In c e.engine.known ⊎ In c (passed_contexts (table_of d) (suc x.node) task))
@@ -179,6 +209,48 @@ refers_now d e w part x m = record {
 stands_on : (T : Table) (o : Option DatonAt) (x y z : PlainTask) → StandsFor T (key_list o) x y → StandsFor T [] y z → StandsFor T (key_list o) x z
 stands_on T None x y z p q = stands-then T [] [] x y z p q
 stands_on T (Some k) x y z p q = stands-then T (key_list (Some k)) [] x y z p q
+
+-- A value that answers the task is given, and the policy has its turn, whatever was held before it.
+module _ (d : Demand) (old now : Evaluating) (w : World) (part : Option Part) (x : Task) (n : ℕ) (owns : Owns d now.engine w)
+    (is_for : IsFor d now w part (plain_task now.engine.known x) n) (same : cost d now ≡ cost d old) (v : Value)
+    (answers : (b : Elements) → MayHave now.engine b → Answers d b (holding now.engine) now.engine.stored.lost (plain_task now.engine.known x) (plain v)) where
+  -- it answers what the task is asked for
+  stood_answers : (y : PlainTask) → StandsFor (table_of d) [] (plain_task now.engine.known x) y → (b : Elements) → MayHave now.engine b
+      → Answers d b (holding now.engine) now.engine.stored.lost y (plain v)
+  stood_answers y s b z = standing-answers d b (holding now.engine) now.engine.stored.lost [] (plain_task now.engine.known x) y (plain v) s
+      (λ a c k i. absurd i) (answers b z)
+
+  pub given_turned : (rs : List (Option TaskRow)) → rows.Gives now.rows rs part v → (new : Evaluating) → IsTurned now.engine new.engine → new.rows ≡ rs
+      → AsksIn d old new w part (Ok (rows.returned part v))
+  given_turned rs gives new t last = go part is_for gives
+    where
+      go : (p : Option Part) → IsFor d now w p (plain_task now.engine.known x) n → rows.Gives now.rows rs p v
+          → AsksIn d old new w p (Ok (rows.returned p v))
+      go None f g = record {
+        owns = owns_turned d now.engine new.engine w owns t;
+        goes_on = tt;
+        answers = λ b z. answers_turned d now.engine new.engine w owns t b d.root (plain v)
+            (stood_answers d.root f.1 b (subst (λ (e : EngineView). MayHave e b) t.only z));
+        nothing = tt;
+        deep = λ e. absurd (cc);
+        refused = tt;
+      }
+      go (Some p) f g = record {
+        owns = owns_turned d now.engine new.engine w owns t;
+        goes_on = (
+          subst (λ z. Waits d new.engine w z) (sym last) (waits_turned d now.engine new.engine w owns t rs down.waits),
+          subst (λ k. k < cost d old) (sym (turned_cost d (record { engine = now.engine; rows = rs }) new t last))
+              (subst (λ k. cost_of d now.engine.known rs < k) same down.less),
+        );
+        answers = tt;
+        nothing = (emptied_turn d now.engine new.engine w owns t).nothing;
+        deep = λ e. absurd (cc);
+        refused = tt;
+      }
+        where
+          down : GoesDown d now.engine w now.rows rs
+          down = gives_goes_down d now.engine w now.rows rs f.waits p f.parent v f.there f.free f.few
+              (λ b z. record { task = f.task; is = f.is_part; answers = stood_answers f.task f.stands b z }) g
 
 module _ (d : Demand) (old now : Evaluating) (w : World) (part : Option Part) (x : Task) (n : ℕ) (m : MayAskFor d now w part x n)
     (same : cost d now ≡ cost d old) where
@@ -408,6 +480,22 @@ module _ (o old : Evaluating) (view : o ≡ old) (part : Option Part) (x : Task)
     ask_referred new res asks = asked_from i.demand old (after o.rows) new i.world part res same_cost
         (asks (refers_now i.demand (after o.rows) i.world part y may_last))
 
+    -- The operator that is left of it is asked for.
+    pub ask_operated : (new : Evaluating) (res : Result (Option Value) DemandFault)
+        → (MayHaveRow i.demand (after o.rows) i.world part y y None → AsksIn i.demand (after o.rows) new i.world part res)
+        → AsksIn i.demand old new i.world part res
+    ask_operated new res asks = asked_from i.demand old (after o.rows) new i.world part res same_cost (asks (record {
+      least = m;
+      may = may_last;
+      stands = stands-itself (table_of i.demand) (plain_task known y);
+      still = moved_is_still i.demand (after o.rows) i.world part x may_after y last tag;
+      lower = omega arith;
+      tag = tag;
+      key_tag = tt;
+      wanted = may_last.wanted;
+      remembers = λ b z. tt;
+    }))
+
     -- Any other task has a row.
     pub ask_asked : (rs : List (Option TaskRow)) (slot : ℕ) → rows.IsPast o.rows slot → rows.Asks o.rows rs part slot y None → (r : Option Value) → r ≡ None
         → AsksIn i.demand old (after rs) i.world part (Ok r)
@@ -454,6 +542,35 @@ module _ (old new : Evaluating) (inner : List (Option TaskRow)) (same : inner �
     only = only;
     keeps = keeps;
   }
+
+-- The rows are those that they were, and of the engine no more is another than what is known, held and noted.
+pub record Passes (old now : Evaluating) : Type 0 where
+  pub rows_stay : now.rows ≡ old.rows
+  pub only : now.engine ≡ record old.engine { known = now.engine.known; stored = now.engine.stored; noted = now.engine.noted }
+  pub keeps : KeepsKnown old.engine.known now.engine.known
+
+pub passes_then : (old mid new : Evaluating) → Passes old mid → Passes mid new → Passes old new
+passes_then old mid new p q = record {
+  rows_stay = q.rows_stay ∙ p.rows_stay;
+  only = q.only ∙ ap (λ (e : EngineView). record e { known = new.engine.known; stored = new.engine.stored; noted = new.engine.noted }) p.only;
+  keeps = record {
+    known = λ tag h. q.keeps.known tag (p.keeps.known tag h);
+    same = λ tag h. q.keeps.same tag (p.keeps.known tag h) ∙ p.keeps.same tag h;
+  };
+}
+
+-- What is set of a part then was set.
+pub sets_then : (old mid new : Evaluating) → Passes old mid → (part : Option Part) → IfSome part (SetsPart mid new) → IfSome part (SetsPart old new)
+sets_then old mid new p None s = tt
+sets_then old mid new p (Some part) s = record {
+  state = s.state;
+  row = s.row ∙ ap (λ rs. option_map (rows.with_part part.index s.state) (row_at rs part.slot)) p.rows_stay;
+  only = s.only ∙ ap (λ (e : EngineView). record e { known = new.engine.known; stored = new.engine.stored; noted = new.engine.noted }) p.only;
+  keeps = record {
+    known = λ tag h. s.keeps.known tag (p.keeps.known tag h);
+    same = λ tag h. s.keeps.same tag (p.keeps.known tag h) ∙ p.keeps.same tag h;
+  };
+}
 
 -- Where the asking is for a part, there is no answer yet: what was there stays,
 pub open_still : (part : Option Part) (a : Option Value) → a ≡ None → IfSome part (λ p. a ≡ None)

@@ -1,4 +1,5 @@
 pub mod Common
+pub mod AskedOperators
 pub mod AskedParts
 pub mod AskedReferences
 pub mod AskedRows
@@ -18,5 +19,7 @@ pub mod SettledRows
 pub mod Starting
 pub mod Stepping
 pub mod TakenParts
+pub mod ToldOperators
+pub mod ToldTasks
 pub mod TouchedKeys
 pub mod Turning

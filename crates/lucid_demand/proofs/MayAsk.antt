@@ -14,7 +14,7 @@ use Rattle.lucid_demand.proofs.SettledRows.{ready_is_there}
 use Rattle.lucid_demand.proofs.Stepping.{argument_in_table}
 
 -- what stays held is right
-stays_right : (d : Demand) (now : EngineView) (w : World) (b : Elements) → Owns d now w → MayHave now b → HoldsRight (equations_of (table_of d)) b (stays d)
+pub stays_right : (d : Demand) (now : EngineView) (w : World) (b : Elements) → Owns d now w → MayHave now b → HoldsRight (equations_of (table_of d)) b (stays d)
 stays_right d now w b owns m k s v h = let f = owns.stock.stock b m in f.right k s v (f.stays k s v h)
 
 -- what is there by the demand's table is there by the engine's

@@ -1,6 +1,6 @@
 -- The body of a reference that may be asked for: it may be where a key was touched. Where it is a name whose value is held, that value is put and
 -- given; where it isn't held, the new row asks for it.
-use Rattle.lucid_demand.proofs.Common.{ℕ, arith, inl, inr, List, [], ◌∷◌, Option, None, refl, sym, ap, ◌∙◌, subst, IsTrue, IsSome, Value, plain, Elements, Key, KeepsKnown, Task, TaskRow, Stored, IsTouched, value_at, World, PlainTask, DatonAt, plain_task, plain_key, plain_rows, RefersTo, EngineView, known_elements, holding, MayHave, Demand, Remembers, answers_over, work_over, Evaluating, cost, IsFor, MayAskFor, MayRefer, AsksIn, FindsAim, IsTurned, DemandFault, NoMemory, IsReference, node_of, equations_of, context_of, at_another, at_it, aim_of_task, plain_aim, IsAim, space_of}
+use Rattle.lucid_demand.proofs.Common.{ℕ, arith, inl, inr, List, [], ◌∷◌, Option, None, refl, sym, ap, ◌∙◌, subst, IsTrue, IsSome, Value, plain, Elements, Key, KeepsKnown, Task, TaskRow, Stored, IsTouched, value_at, World, PlainTask, DatonAt, plain_task, plain_key, plain_rows, RefersTo, EngineView, known_elements, holding, MayHave, Demand, Remembers, Context, answers_over, work_over, Evaluating, cost, IsFor, MayAskFor, MayRefer, AsksIn, FindsAim, IsTurned, DemandFault, NoMemory, IsReference, node_of, equations_of, context_of, at_another, at_it, aim_of_task, plain_aim, IsAim, space_of}
 use Rattle.std.proofs.Common.{◌≡◌, ◌≢◌, ◌<◌, Some}
 use Rattle.std.specs.Prelude.{IfSome, Result, Ok, Err, option_map}
 use Rattle.lucid_tasks.specs.declared.Part.{Part}
@@ -16,22 +16,22 @@ use Rattle.lucid_demand_steps.proofs.FoundAims.{aim_refers}
 use Rattle.lucid_demand_steps.proofs.Putting.{remembered-is_put}
 use Rattle.lucid_demand_steps.proofs.Storing.{AfterPut, after_put}
 use Rattle.lucid_demand.specs.Asking.{SetsPart}
-use Rattle.lucid_demand.specs.Naming.{IsNamedAim, MayAskBody, MayGiveBody}
+use Rattle.lucid_demand.specs.Naming.{IsNamedAim, MayHaveRow, MayAskBody, MayGiveBody}
 use Rattle.lucid_store.proofs.CallerLemmas.{absent_touched, value_at-touched}
 use Rattle.lucid_demand.proofs.AskedReferences.{LooksUp}
 use Rattle.lucid_demand.proofs.MayAsk.{reference_may_be_asked}
 use Rattle.lucid_demand.proofs.SettledRows.{on_going}
 use Rattle.lucid_demand.proofs.TouchedKeys.{found_is_held}
-use Rattle.lucid_demand.proofs.Turning.{owns_turned, waits_turned, answers_turned, emptied_turn, within_turn}
-use Rattle.lucid_demand.proofs.AskedParts.{may_ask_touched, asked_given, asked_row, asked_refused, asked_turned, asked_from, given_sets, asked_sets, only_set, idle_seen}
+use Rattle.lucid_demand.proofs.Turning.{answers_turned, within_turn}
+use Rattle.lucid_demand.proofs.AskedParts.{may_ask_touched, may_ask_turned, given_turned, asked_row, asked_refused, asked_from, given_sets, asked_sets, only_set, idle_seen}
 
 -- ---- where the store is another
 
--- a body may be asked for where a key was touched
-pub body_touched : (d : Demand) (e : Evaluating) (w : World) (part : Option Part) (x y : Task) (key : Key) → MayAskBody d e w part x y key
+-- a row may be made where a key was touched
+pub row_touched : (d : Demand) (e : Evaluating) (w : World) (part : Option Part) (x y : Task) (key : Option Key) → MayHaveRow d e w part x y key
     → (stored : Stored) (k : Key) → IsTouched e.engine.stored stored k
-    → MayAskBody d (record { engine = record e.engine { stored = stored }; rows = e.rows }) w part x y key
-body_touched d e w part x y key m stored k touched = record {
+    → MayHaveRow d (record { engine = record e.engine { stored = stored }; rows = e.rows }) w part x y key
+row_touched d e w part x y key m stored k touched = record {
   least = m.least;
   may = may_ask_touched d e w part x m.least m.may stored k touched;
   stands = m.stands;
@@ -46,7 +46,7 @@ body_touched d e w part x y key m stored k touched = record {
 pub body_looked : (d : Demand) (old new : Evaluating) (w : World) (part : Option Part) (x y : Task) (key k : Key) (found : Option Value) → LooksUp old new k found
     → MayAskBody d old w part x y key → MayAskBody d new w part x y key
 body_looked d old new w part x y key k found l m = subst (λ z. MayAskBody d z w part x y key) (sym l.only)
-    (body_touched d old w part x y key m new.engine.stored k l.touched)
+    (row_touched d old w part x y (Some key) m new.engine.stored k l.touched)
 
 pub looked_cost : (d : Demand) (old new : Evaluating) (k : Key) (found : Option Value) → LooksUp old new k found → cost d new ≡ cost d old
 looked_cost d old new k found l = ap (cost d) l.only
@@ -74,7 +74,7 @@ module _ (d : Demand) (old new : Evaluating) (w : World) (part : Option Part) (x
   after_look = record old { engine = record old.engine { stored = new.engine.stored } }
 
   body_there : MayAskBody d after_look w part x y key
-  body_there = body_touched d old w part x y key m new.engine.stored a.key l.touched
+  body_there = row_touched d old w part x y (Some key) m new.engine.stored a.key l.touched
 
   held : holding after_look.engine daton.0 daton.1 ≡ Some (plain v)
   held = found_is_held d old.engine w new.engine.stored a.key m.may.owns l.touched (Some v) there.key_known l.value
@@ -84,35 +84,38 @@ module _ (d : Demand) (old new : Evaluating) (w : World) (part : Option Part) (x
 
   pub named_may_be_given : MayGiveBody d new w part x y key v
   named_may_be_given = subst (λ z. MayGiveBody d z w part x y key v) (sym l.only) (record {
-    body = body_there;
+    row = body_there;
     answers = λ b z.
         let stock = body_there.may.owns.stock.stock b z in
         held-answers d b (holding after_look.engine) after_look.engine.stored.lost (plain_task old.engine.known y) daton (plain v) refers held not_emptied
         stock.right stock.closed;
-    holds = not_emptied;
   })
 
--- ---- the body has a row, or there is no memory for one
+-- ---- the task has a row, or there is no memory for one
+
+-- the daton of a key, if there is one, is the one that is remembered
+its_daton : (d : Demand) (b : Elements) (known : List Context) (y : PlainTask) (key : Option Key) → IfSome key (λ k. Remembers d b y (plain_key known k))
+    → (q : DatonAt) → option_map (plain_key known) key ≡ Some q → Remembers d b y q
+its_daton d b known y None h q e = absurd (cc)
+its_daton d b known y (Some k) h q e = subst (λ z. Remembers d b y z) (let same : plain_key known k ≡ q = cc in same) h
 
 -- What is so where the engine is seen so.
-module _ (o old : Evaluating) (view : o ≡ old) (d : Demand) (w : World) (part : Option Part) (x y : Task) (key : Key)
-    (may : MayAskBody d old w part x y key) where
-  here : MayAskBody d o w part x y key
-  here = subst (λ z. MayAskBody d z w part x y key) (sym view) may
+module _ (o old : Evaluating) (view : o ≡ old) (d : Demand) (w : World) (part : Option Part) (x y : Task) (key : Option Key)
+    (may : MayHaveRow d old w part x y key) where
+  here : MayHaveRow d o w part x y key
+  here = subst (λ z. MayHaveRow d z w part x y key) (sym view) may
 
   pub row_refused : (rs : List (Option TaskRow)) (res : Result (Option Value) DemandFault) → res ≡ Err NoMemory
       → AsksIn d old (record { engine = o.engine; rows = rs }) w part res
   row_refused rs res is = subst (λ r. AsksIn d old (record { engine = o.engine; rows = rs }) w part r) (sym is)
       (asked_refused d old o w part x here.least here.may (ap (cost d) view) rs)
 
-  pub row_asked : (rs : List (Option TaskRow)) (slot : ℕ) → rows.IsPast o.rows slot → rows.Asks o.rows rs part slot y (Some key) → (r : Option Value)
+  pub row_asked : (rs : List (Option TaskRow)) (slot : ℕ) → rows.IsPast o.rows slot → rows.Asks o.rows rs part slot y key → (r : Option Value)
       → r ≡ None
       → AsksIn d old (record { engine = o.engine; rows = rs }) w part (Ok r)
   row_asked rs slot past asks r stays = subst (λ z. AsksIn d old (record { engine = o.engine; rows = rs }) w part (Ok z)) (sym stays)
-      (asked_row d old o w part x here.least here.may (ap (cost d) view) rs slot y (Some key) here.stands here.still here.lower here.tag here.key_tag
-      here.wanted
-      (λ b z k is. subst (λ q. Remembers d b (plain_task o.engine.known y) q) (let same : plain_key o.engine.known key ≡ k = cc in same)
-      (here.remembers b z)) past asks)
+      (asked_row d old o w part x here.least here.may (ap (cost d) view) rs slot y key here.stands here.still here.lower here.tag here.key_tag
+      here.wanted (λ b z. its_daton d b o.engine.known (plain_task o.engine.known y) key (here.remembers b z)) past asks)
 
 -- The row of a new task is set for the part, where the engine is seen so.
 pub row_sets : (o old : Evaluating) → o ≡ old → (part : Option Part) (y : Task) (key : Option Key) → IfSome part (rows.IsIdlePart old.rows)
@@ -132,10 +135,7 @@ module _ (d : Demand) (e : Evaluating) (w : World) (part : Option Part) (x y : T
   its = plain_task e.engine.known x
 
   abbrev n : ℕ
-  n = g.body.least
-
-  m : MayAskFor d e w part x n
-  m = g.body.may
+  n = g.row.least
 
   -- what the engine is after the policy's turn
   abbrev later : EngineView
@@ -144,29 +144,8 @@ module _ (d : Demand) (e : Evaluating) (w : World) (part : Option Part) (x y : T
   t : IsTurned e.engine later
   t = subst (λ z. IsTurned e.engine z) turned.only turned
 
-  for_turned : (p : Option Part) → IsFor d e w p its n → IsFor d (record { engine = later; rows = e.rows }) w p its n
-  for_turned None f = f
-  for_turned (Some p) f = record {
-    waits = waits_turned d e.engine later w f.waits.going.owns t e.rows f.waits;
-    parent = f.parent;
-    there = f.there;
-    free = f.free;
-    few = f.few;
-    task = f.task;
-    is_part = f.is_part;
-    stands = f.stands;
-    least_rank = f.least_rank;
-  }
-
   may_turned : MayAskFor d (record { engine = later; rows = e.rows }) w part x n
-  may_turned = record {
-    demand = m.demand;
-    owns = owns_turned d e.engine later w m.owns t;
-    nothing = (emptied_turn d e.engine later w m.owns t).nothing;
-    wanted = m.wanted;
-    tag = m.tag;
-    is_for = for_turned part m.is_for;
-  }
+  may_turned = may_ask_turned d e w part x n g.row.may now turned
 
   -- There was no memory for a copy of the value.
   pub named_refused : (rs : List (Option TaskRow)) (res : Result (Option Value) DemandFault) → res ≡ Err NoMemory
@@ -176,7 +155,7 @@ module _ (d : Demand) (e : Evaluating) (w : World) (part : Option Part) (x y : T
       (asked_refused d e (record { engine = later; rows = e.rows }) w part x n may_turned refl rs))
 
   answers_body : (b : Elements) → MayHave later b → Answers d b (holding later) later.stored.lost (plain_task e.engine.known y) (plain v)
-  answers_body b z = answers_turned d e.engine later w m.owns t b (plain_task e.engine.known y) (plain v) (g.answers b z)
+  answers_body b z = answers_turned d e.engine later w g.row.may.owns t b (plain_task e.engine.known y) (plain v) (g.answers b z)
 
   -- The value is put.
   module _ (stored : Stored) (change : PutsOrLoses now.stored stored key v) where
@@ -185,9 +164,9 @@ module _ (d : Demand) (e : Evaluating) (w : World) (part : Option Part) (x y : T
 
     put : AfterPut d later kept w (plain_key e.engine.known key)
     put =
-        after_put d later stored w key v (owns_turned d e.engine later w m.owns t) (within_turn d e.engine later w m.owns t) g.body.key_tag
+        after_put d later stored w key v may_turned.owns (within_turn d e.engine later w g.row.may.owns t) g.row.key_tag
         (λ b z. remembered-is_put d b (holding later) later.stored.lost (plain_task e.engine.known y) (plain_key e.engine.known key) (plain v)
-        (g.body.remembers b z) (answers_body b z)) change
+        (g.row.remembers b z) (answers_body b z)) change
 
     for_put : (p : Option Part) → IsFor d (record { engine = later; rows = e.rows }) w p its n → IsFor d (record { engine = kept; rows = e.rows }) w p its n
     for_put None f = f
@@ -210,20 +189,10 @@ module _ (d : Demand) (e : Evaluating) (w : World) (part : Option Part) (x y : T
       least_rank = f.least_rank;
     }
 
-    may_kept : MayAskFor d (record { engine = kept; rows = e.rows }) w part x n
-    may_kept = record {
-      demand = m.demand;
-      owns = put.owns;
-      nothing = λ empties k s. absurd (g.holds empties);
-      wanted = m.wanted;
-      tag = m.tag;
-      is_for = for_put part may_turned.is_for;
-    }
-
     -- It answers the reference, whose daton is held now, or was lost.
     answers_reference : (b : Elements) → MayHave kept b → Answers d b (holding kept) kept.stored.lost its (plain v)
     answers_reference b z =
-        standing-answers d b (holding kept) stored.lost (plain_key e.engine.known key ∷ []) (plain_task e.engine.known y) its (plain v) g.body.stands
+        standing-answers d b (holding kept) stored.lost (plain_key e.engine.known key ∷ []) (plain_task e.engine.known y) its (plain v) g.row.stands
         (λ keeps none k is. elim is [
           | inl same ↦ subst (λ (q : DatonAt). IsSome (holding kept q.0 q.1)) (sym same) (put.there none)
           | inr none_other ↦ absurd none_other
@@ -235,10 +204,8 @@ module _ (d : Demand) (e : Evaluating) (w : World) (part : Option Part) (x y : T
         → IsTurned (record now { stored = stored }) new.engine → new.rows ≡ rs → (o : Option Value) → o ≡ rows.returned part v
         → AsksIn d e new w part (Ok o)
     named_given rs gives new again same o told = subst (λ r. AsksIn d e new w part (Ok r)) (sym told)
-        (asked_turned d e (record { engine = record now { stored = stored }; rows = rs }) new w part (rows.returned part v)
-        (subst (λ (z : EngineView). AsksIn d e (record { engine = record z { stored = stored }; rows = rs }) w part (Ok (rows.returned part v)))
-        (sym turned.only)
-        (asked_given d e (record { engine = kept; rows = e.rows }) w part x n may_kept refl rs v answers_reference gives)) again same)
+        (given_turned d e (record { engine = kept; rows = e.rows }) w part x n put.owns (for_put part may_turned.is_for) refl v answers_reference rs gives new
+        (subst (λ (z : EngineView). IsTurned (record z { stored = stored }) new.engine) turned.only again) same)
 
 -- ---- the new row's own first part is asked for
 
@@ -253,7 +220,7 @@ name_may_be_asked d e w part x y key may rs slot past asks names =
     (subst (λ T. IsReference (node_of T (plain_task e.engine.known y))) may.may.owns.since.goes_on.table names, refl, may.tag, refl)
   where
     asked : AsksIn d e (record { engine = e.engine; rows = rs }) w part (Ok None)
-    asked = row_asked e e refl d w part x y key may rs slot past asks None refl
+    asked = row_asked e e refl d w part x y (Some key) may rs slot past asks None refl
 
 -- What is asked for within the new row is asked for with it.
 pub asked_on : (d : Demand) (old mid new : Evaluating) (w : World) (part : Option Part) (sub : Part) (result : Result (Option Value) DemandFault)
@@ -293,7 +260,7 @@ module _ (d : Demand) (old looked o : Evaluating) (w : World) (part : Option Par
   named_asked rs slot past asks new result within =
       asked_from d old looked new w part result (looked_cost d old looked a.key None l)
       (asked_on d looked (record { engine = o.engine; rows = rs }) new w part (record { slot = slot; index = 0 }) result
-      (row_asked o looked view d w part x y key (body_looked d old looked w part x y key a.key None l may) rs slot past asks None refl)
+      (row_asked o looked view d w part x y (Some key) (body_looked d old looked w part x y key a.key None l may) rs slot past asks None refl)
       (within (name_may_be_asked d o w part x y key body_looked_up rs slot past asks is_named) absent))
 
 -- what a name goes on with is its aim

@@ -7,4 +7,5 @@ pub mod LoopEnds
 pub mod Naming
 pub mod Reading
 pub mod Searching
+pub mod Telling
 pub mod Turning

@@ -40,6 +40,9 @@ impl<R: Retire, S: Pick> Evaluation<R, S> {
                 Ok(())
             }
             Node::Refer { .. } | Node::Call { .. } => self.ask_reference(part, task, answer),
+            Node::Apply { .. } if self.may_be_told(task.node) => {
+                self.ask_operator(part, task, None, answer)
+            }
             _ => {
                 self.tasks.ask(part, task, None)?;
                 Ok(())

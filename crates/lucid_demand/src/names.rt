@@ -38,6 +38,9 @@ impl<R: Retire, S: Pick> Evaluation<R, S> {
     {
         match self.program.node(body.node) {
             Node::Refer { .. } => self.ask_named(part, body, key, answer),
+            Node::Apply { .. } if self.may_be_told(body.node) => {
+                self.ask_operator(part, body, Some(key), answer)
+            }
             _ => {
                 self.tasks.ask(part, body, Some(key))?;
                 Ok(())
@@ -71,35 +74,33 @@ impl<R: Retire, S: Pick> Evaluation<R, S> {
             return self.give_named(part, key, value, answer);
         }
         let slot = self.tasks.ask(part, body, Some(key))?;
-        self.ask_within(slot, body, aim)
+        self.ask_within(Part { slot, index: 0 }, body, aim)
     }
 
-    // A new row's task is a name that isn't held: the name's body is asked for, as its first part. The row's own turn would do no more, and would
-    // look the name up again.
+    /// A part of a new row is a name that isn't held: the name's body is asked for. The row's own turn would look the name up again.
     #[inline(never)]
-    fn ask_within(&mut self, slot: usize, task: Task, aim: Aim) -> Result<(), DemandFault>
-        requires idle { IsIdlePart self.old.rows (record { slot = slot; index = 0 }) }
+    pub(crate) fn ask_within(&mut self, part: Part, task: Task, aim: Aim) -> Result<(), DemandFault>
+        requires idle { IsIdlePart self.old.rows part }
         requires known { IsKnown self.old.engine.known task.tag }
         requires named { IsNamedAim self.old task aim }
-        ensures rows { OnOk result ((q : ℕ) → IsRow self.old.rows q → q ≢ slot → row_at self.new.rows q ≡ row_at self.old.rows q) }
+        ensures rows { OnOk result ((q : ℕ) → IsRow self.old.rows q → q ≢ part.slot → row_at self.new.rows q ≡ row_at self.old.rows q) }
         ensures only { self.new.engine ≡ record self.old.engine { known = self.new.engine.known } }
         ensures keeps { KeepsKnown self.old.engine.known self.new.engine.known }
-        ensures asks { (i : DemandIn) → MayRefer i.demand self.old i.world (Some (record { slot = slot; index = 0 })) task → value_at self.old.engine.stored aim.key ≡ None
-            → AsksIn i.demand self.old self.new i.world (Some (record { slot = slot; index = 0 })) (gave result None) }
+        ensures asks { (i : DemandIn) → MayRefer i.demand self.old i.world (Some part) task → value_at self.old.engine.stored aim.key ≡ None
+            → AsksIn i.demand self.old self.new i.world (Some part) (gave result None) }
     {
         if task.depth == 0 {
             return Err(DemandFault::TooDeep);
         }
         let body = moved_on(&self.program, &mut self.tags, aim.task(task.depth - 1))?;
-        self.tasks
-            .ask(Some(Part { slot, index: 0 }), body, Some(aim.key))?;
+        self.tasks.ask(Some(part), body, Some(aim.key))?;
         Ok(())
     }
 
-    // A value that another name has is put under a key, and given. The policy has its turn before and after, so that it is told of each key that
-    // is touched, and nothing is put past its room.
+    /// A value that another name has, or that an operator gives, is put under a key, and given. The policy has its turn before and after, so that it
+    /// is told of each key that is touched, and nothing is put past its room.
     #[inline(never)]
-    fn give_named(
+    pub(crate) fn give_named(
         &mut self,
         part: Option<Part>,
         key: Key,
@@ -119,9 +120,9 @@ impl<R: Retire, S: Pick> Evaluation<R, S> {
         Ok(())
     }
 
-    // What a task goes on with, if it is a name that leads somewhere.
+    /// What a task goes on with, if it is a name that leads somewhere.
     #[inline(always)]
-    fn named_aim(&self, task: Task) -> Option<Aim>
+    pub(crate) fn named_aim(&self, task: Task) -> Option<Aim>
         requires there { task.node < length self.now.engine.table.nodes }
         requires known { IsKnown self.now.engine.known task.tag }
         ensures { IfSome result (IsNamedAim self.now task) }

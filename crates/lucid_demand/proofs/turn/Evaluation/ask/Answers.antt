@@ -5,7 +5,7 @@ use Rattle.lucid_tree.specs.Tree.{const}
 use Rattle.lucid_equations.specs.Nodes.{no_nodes}
 use Rattle.lucid_equations.specs.Programs.{table_of}
 use Rattle.lucid_demand.proofs.TakenParts.{gave_err}
-use Rattle.lucid_demand.proofs.AskedParts.{only_known, ask_refused, ask_given, ask_referred, ask_asked, given_sets, asked_sets, last_sets, can_ask_last, open_still, open_given, no_ok, on_ok}
+use Rattle.lucid_demand.proofs.AskedParts.{only_known, ask_refused, ask_given, ask_referred, ask_operated, ask_asked, given_sets, asked_sets, last_sets, can_ask_last, idle_seen, open_still, open_given, no_ok, on_ok}
 use Rattle.lucid_demand.proofs.turn.Evaluation.ask.Goals as goal
 
 pub returns-in_err-task-clause-asks : goal.returns-in_err-task-clause-asks
@@ -34,6 +34,15 @@ ask_reference-requires-clause-can g c =
     ((passed-stands (table_of c.self.inside.program) c.self.inside.program.in_range (plain_task c.self.inside.tags c.args.task)
     (subst (λ (e : Evaluating). c.args.task.node < length e.engine.table.nodes) (sym c.self.view_is)
     c.requires.can.there)).2)) c.in_ok-task.ensures.passed_known
+
+pub ask_operator-requires-clause-idle : goal.ask_operator-requires-clause-idle
+ask_operator-requires-clause-idle g c = idle_seen _ c.args.self.now c.args.part c.self.view_is c.requires.can.part_idle
+
+pub ask_operator-requires-clause-there : goal.ask_operator-requires-clause-there
+ask_operator-requires-clause-there g c =
+    subst (λ (y : PlainTask). y.node < length (table_of c.self.inside.program).nodes) (sym c.in_ok-task.ensures.passed)
+    ((passed-stands (table_of c.self.inside.program) c.self.inside.program.in_range (plain_task c.self.inside.tags c.args.task)
+    (subst (λ (e : Evaluating). c.args.task.node < length e.engine.table.nodes) (sym c.self.view_is) c.requires.can.there)).2)
 
 pub returns-in_err-ask-in_default-clause-sets : goal.returns-in_err-ask-in_default-clause-sets
 returns-in_err-ask-in_default-clause-sets g c = no_ok c.from_residual-in_err-ask-in_default.result _ _ c.from_residual-in_err-ask-in_default.ensures.1
@@ -97,3 +106,15 @@ returns-in_ok-ask-in_default-clause-asks g c = λ i may.
     (record { keeps = c.moved_on.ensures.keeps; contexts = c.moved_on.ensures.one_for_one; entered = c.moved_on.ensures.entered }) i may c.in_ok-task.task
     c.in_ok-task.ensures.passed c.in_ok-task.ensures.passed_known c.ask.new.self c.in_ok-ask-in_default.field-0
     c.in_ok-ask-in_default.ensures.newest c.in_ok-ask-in_default.ensures.rows c.args.answer.now c.requires.open
+
+pub returns-in-Apply-clause-sets : goal.returns-in-Apply-clause-sets
+returns-in-Apply-clause-sets g c =
+    on_ok c.ask_operator.result _ _ (last_sets _ c.args.self.now c.self.view_is c.moved_on.new.tags c.moved_on.ensures.keeps c.ask_operator.new.self
+    c.args.part) c.ask_operator.ensures.sets
+
+pub returns-in-Apply-clause-asks : goal.returns-in-Apply-clause-asks
+returns-in-Apply-clause-asks g c = λ i may.
+    ask_operated _ c.args.self.now c.self.view_is c.args.part c.args.task c.moved_on.new.tags
+    (record { keeps = c.moved_on.ensures.keeps; contexts = c.moved_on.ensures.one_for_one; entered = c.moved_on.ensures.entered }) i may c.in_ok-task.task
+    c.in_ok-task.ensures.passed c.in_ok-task.ensures.passed_known c.ask_operator.new.self
+    (gave c.ask_operator.result c.ask_operator.new.answer) (c.ask_operator.ensures.asks i c.in_ok-task.task)

@@ -1,4 +1,5 @@
 use Rattle.lucid_demand.proofs.Common.{None, refl, ◌∙◌, sym, subst, IsKnown, Evaluating, gave, value_at, AsksIn, NoMemory}
+use Rattle.std.proofs.Common.{Some}
 use Rattle.std.specs.Prelude.{IfSome}
 use Rattle.lucid_tasks.specs.Rows.{IsIdlePart}
 use Rattle.lucid_demand.specs.Naming.{IsNamedAim}
@@ -12,7 +13,7 @@ use Rattle.lucid_demand.proofs.turn.Evaluation.ask_named.Goals as goal
 
 pub returns-in_err-ask-clause-asks : goal.returns-in_err-ask-clause-asks
 returns-in_err-ask-clause-asks g c = λ i x may.
-    row_refused _ c.args.self.now c.self.view_is i.demand i.world c.args.part x c.args.body c.args.key may c.ask.new.self
+    row_refused _ c.args.self.now c.self.view_is i.demand i.world c.args.part x c.args.body (Some c.args.key) may c.ask.new.self
     (gave c.from_residual.result c.args.answer.now) (gave_err c.from_residual.result c.args.answer.now NoMemory c.from_residual.ensures.1)
 
 pub returns-in_default-clause-sets : goal.returns-in_default-clause-sets
@@ -25,7 +26,7 @@ returns-in_default-clause-open g c = open_still c.args.part c.args.answer.now c.
 
 pub returns-in_default-clause-asks : goal.returns-in_default-clause-asks
 returns-in_default-clause-asks g c = λ i x may.
-    row_asked _ c.args.self.now c.self.view_is i.demand i.world c.args.part x c.args.body c.args.key may c.ask.new.self c.in_ok-ask.field-0
+    row_asked _ c.args.self.now c.self.view_is i.demand i.world c.args.part x c.args.body (Some c.args.key) may c.ask.new.self c.in_ok-ask.field-0
     c.in_ok-ask.ensures.newest c.in_ok-ask.ensures.rows c.args.answer.now c.requires.open
 
 -- ---- it is a name, which is looked up
@@ -37,7 +38,7 @@ returns-in_err-value-clause-asks g c = λ i x may.
     record { value = refl; touched = c.copy_held.ensures.touched; only = c.copy_held.ensures.only } in
     asked_from i.demand c.args.self.now c.copy_held.new.self c.copy_held.new.self i.world c.args.part (gave c.from_residual-in_err-value.result c.args.answer.now)
     (looked_cost i.demand c.args.self.now c.copy_held.new.self c.in-Some.aim.key _ looks)
-    (row_refused c.copy_held.new.self c.copy_held.new.self refl i.demand i.world c.args.part x c.args.body c.args.key
+    (row_refused c.copy_held.new.self c.copy_held.new.self refl i.demand i.world c.args.part x c.args.body (Some c.args.key)
     (body_looked i.demand c.args.self.now c.copy_held.new.self i.world c.args.part x c.args.body c.args.key c.in-Some.aim.key _ looks may)
     c.copy_held.new.self.rows (gave c.from_residual-in_err-value.result c.args.answer.now)
     (gave_err c.from_residual-in_err-value.result c.args.answer.now NoMemory c.from_residual-in_err-value.ensures.1))
@@ -71,7 +72,7 @@ returns-in_err-slot-clause-asks g c = λ i x may.
     record { value = c.in_ok-value.ensures.value; touched = c.copy_held.ensures.touched; only = c.copy_held.ensures.only } in
     asked_from i.demand c.args.self.now c.copy_held.new.self _ i.world c.args.part (gave c.from_residual-in_err-slot.result c.args.answer.now)
     (looked_cost i.demand c.args.self.now c.copy_held.new.self c.in-Some.aim.key _ looks)
-    (row_refused _ c.copy_held.new.self c.self-2.view_is i.demand i.world c.args.part x c.args.body c.args.key
+    (row_refused _ c.copy_held.new.self c.self-2.view_is i.demand i.world c.args.part x c.args.body (Some c.args.key)
     (body_looked i.demand c.args.self.now c.copy_held.new.self i.world c.args.part x c.args.body c.args.key c.in-Some.aim.key _ looks may) c.ask-2.new.self
     (gave c.from_residual-in_err-slot.result c.args.answer.now)
     (gave_err c.from_residual-in_err-slot.result c.args.answer.now NoMemory c.from_residual-in_err-slot.ensures.1))

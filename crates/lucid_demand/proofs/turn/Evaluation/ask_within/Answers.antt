@@ -9,7 +9,7 @@ use Rattle.lucid_demand.proofs.turn.Evaluation.ask_within.Goals as goal
 
 pub returns-then-task-eq0-clause-asks : goal.returns-then-task-eq0-clause-asks
 returns-then-task-eq0-clause-asks g c = λ i may none.
-    look_too_deep c.args.self.now c.args.self.now (Some (record { slot = c.args.slot; index = 0 })) c.args.task (found_aim c.args.aim)
+    look_too_deep c.args.self.now c.args.self.now (Some c.args.part) c.args.task (found_aim c.args.aim)
     (self_finds c.args.self.now c.args.task c.args.aim c.requires.named) c.requires.named.reference i may c.args.aim refl
     c.args.self.now None (looks_absent c.args.self.now c.args.aim.key none) refl c.if-task-eq0.true
 
@@ -24,11 +24,11 @@ moved_on-requires-clause-known g c =
     (subst (λ (z : Task). IsKnown c.args.self.now.engine.known z.tag) (sym c.task.ensures) c.requires.named.there.known_tag)
 
 pub ask-requires : goal.ask-requires
-ask-requires g c = subst (λ (e : Evaluating). IsIdlePart e.rows (record { slot = c.args.slot; index = 0 })) (sym c.self.view_is) c.requires.idle
+ask-requires g c = subst (λ (e : Evaluating). IsIdlePart e.rows c.args.part) (sym c.self.view_is) c.requires.idle
 
 pub returns-in_err-body-clause-asks : goal.returns-in_err-body-clause-asks
 returns-in_err-body-clause-asks g c = λ i may none.
-    body_refused c.args.self.now c.args.self.now (Some (record { slot = c.args.slot; index = 0 })) c.args.task (found_aim c.args.aim)
+    body_refused c.args.self.now c.args.self.now (Some c.args.part) c.args.task (found_aim c.args.aim)
     (self_finds c.args.self.now c.args.task c.args.aim c.requires.named) c.requires.named.reference i may c.args.aim refl _ None
     (seen_so c.args.self.now _ c.args.self.now c.args.aim.key None c.self.view_is (looks_absent c.args.self.now c.args.aim.key none)) refl
     (c.args.task.depth - 1) (omega (arith, c.if-task-eq0.false)) c.task.result c.task.ensures c.moved_on.new.tags
@@ -37,7 +37,7 @@ returns-in_err-body-clause-asks g c = λ i may none.
 
 pub returns-in_err-ask-clause-asks : goal.returns-in_err-ask-clause-asks
 returns-in_err-ask-clause-asks g c = λ i may none.
-    body_refused c.args.self.now c.args.self.now (Some (record { slot = c.args.slot; index = 0 })) c.args.task (found_aim c.args.aim)
+    body_refused c.args.self.now c.args.self.now (Some c.args.part) c.args.task (found_aim c.args.aim)
     (self_finds c.args.self.now c.args.task c.args.aim c.requires.named) c.requires.named.reference i may c.args.aim refl _ None
     (seen_so c.args.self.now _ c.args.self.now c.args.aim.key None c.self.view_is (looks_absent c.args.self.now c.args.aim.key none)) refl
     (c.args.task.depth - 1) (omega (arith, c.if-task-eq0.false)) c.task.result c.task.ensures c.moved_on.new.tags
@@ -53,7 +53,7 @@ returns-in_err-ask-clause-only g c = ap (λ (e : Evaluating). record e.engine { 
 
 pub returns-clause-rows : goal.returns-clause-rows
 returns-clause-rows g c = λ q there other.
-    others_stay c.self.inside.tasks c.ask.new.self c.args.self.now.rows (ap (λ (e : Evaluating). e.rows) c.self.view_is) (record { slot = c.args.slot; index = 0 })
+    others_stay c.self.inside.tasks c.ask.new.self c.args.self.now.rows (ap (λ (e : Evaluating). e.rows) c.self.view_is) c.args.part
     c.in_ok-ask.field-0 c.in_ok-body.body _ c.in_ok-ask.ensures.newest c.in_ok-ask.ensures.rows q there other
 
 pub returns-clause-only : goal.returns-clause-only
@@ -61,11 +61,11 @@ returns-clause-only g c = ap (λ (e : Evaluating). record e.engine { known = c.m
 
 pub returns-clause-asks : goal.returns-clause-asks
 returns-clause-asks g c = λ i may none.
-    body_asked c.args.self.now c.args.self.now (Some (record { slot = c.args.slot; index = 0 })) c.args.task (found_aim c.args.aim)
+    body_asked c.args.self.now c.args.self.now (Some c.args.part) c.args.task (found_aim c.args.aim)
     (self_finds c.args.self.now c.args.task c.args.aim c.requires.named) c.requires.named.reference i may c.args.aim refl _ None
     (seen_so c.args.self.now _ c.args.self.now c.args.aim.key None c.self.view_is (looks_absent c.args.self.now c.args.aim.key none)) refl
     (c.args.task.depth - 1) (omega (arith, c.if-task-eq0.false)) c.task.result c.task.ensures c.moved_on.new.tags
     (record { keeps = c.moved_on.ensures.keeps; contexts = c.moved_on.ensures.one_for_one; entered = c.moved_on.ensures.entered })
     c.in_ok-body.body c.in_ok-body.ensures.passed c.in_ok-body.ensures.passed_known _ (Ok None)
-    (λ m. row_asked _ _ refl i.demand i.world (Some (record { slot = c.args.slot; index = 0 })) c.args.task c.in_ok-body.body c.args.aim.key m c.ask.new.self
+    (λ m. row_asked _ _ refl i.demand i.world (Some c.args.part) c.args.task c.in_ok-body.body (Some c.args.aim.key) m c.ask.new.self
     c.in_ok-ask.field-0 c.in_ok-ask.ensures.newest c.in_ok-ask.ensures.rows None refl)
