@@ -1,5 +1,5 @@
 //! The copy of a node over copies of its parts.
-ghost use Rattle.std.specs.Prelude.{◌≡◌, ℕ, IfOk, ◌∷◌, length};
+ghost use Rattle.std.specs.Prelude.{◌≡◌, ℕ, List, IfOk, OnOk, ◌∷◌, length};
 ghost use Rattle.std.specs.Vec.Iter.{into_iter_items};
 ghost use Rattle.lucid_tree.specs.Lists.{trees_of};
 ghost use Rattle.lucid_tree.specs.Parts.{parts_of};
@@ -83,20 +83,19 @@ fn copy_defs(
 {
     let mut copies = Vec::with_capacity(alloc, defs.items().len())?;
     for def in defs.definitions() {
-        let Some(right) = right_sides.next() else {
-            unreachable!()
-        };
-        copies.push(copy_def(alloc, def, right)?)?;
+        copies.push(copy_def(alloc, def, &mut right_sides)?)?;
     }
     Ok(Defs::from_vec(copies))
 }
 
-fn copy_def(alloc: Global, def: &Def, right: Tree) -> Result<Def, AllocError>
-    requires { right ≡ right_of def.now.kind }
-    ensures { IfOk result (λ copy. copy ≡ def.now) }
+// The copy of a definition whose right side has the next of these copies.
+fn copy_def(alloc: Global, def: &Def, right_sides: &mut IntoIter<Tree>) -> Result<Def, AllocError>
+    requires { (rest : List PlainTree) × (into_iter_items right_sides.old ≡ right_of def.now.kind ∷ rest) }
+    ensures copy { IfOk result (λ copy. copy ≡ def.now) }
+    ensures rest { OnOk result (into_iter_items right_sides.old ≡ right_of def.now.kind ∷ into_iter_items right_sides.new) }
 {
     let name = def.name.copy()?;
-    let kind = copy_def_kind(alloc, &def.kind, right)?;
+    let kind = copy_def_kind(alloc, &def.kind, right_sides)?;
     Ok(Def {
         at: def.at,
         name,
@@ -104,12 +103,20 @@ fn copy_def(alloc: Global, def: &Def, right: Tree) -> Result<Def, AllocError>
     })
 }
 
-fn copy_def_kind(alloc: Global, kind: &DefKind, right: Tree) -> Result<DefKind, AllocError>
-    requires { right ≡ right_of kind.now }
-    ensures { IfOk result (λ copy. copy ≡ kind.now) }
+// The right side comes last, so that no tree waits while the rest is copied.
+fn copy_def_kind(
+    alloc: Global,
+    kind: &DefKind,
+    right_sides: &mut IntoIter<Tree>,
+) -> Result<DefKind, AllocError>
+    requires { (rest : List PlainTree) × (into_iter_items right_sides.old ≡ right_of kind.now ∷ rest) }
+    ensures copy { IfOk result (λ copy. copy ≡ kind.now) }
+    ensures rest { OnOk result (into_iter_items right_sides.old ≡ right_of kind.now ∷ into_iter_items right_sides.new) }
 {
     match kind {
-        DefKind::Plain { .. } => Ok(DefKind::Plain { right }),
+        DefKind::Plain { .. } => Ok(DefKind::Plain {
+            right: next_right(right_sides),
+        }),
         DefKind::Function {
             parameters,
             places,
@@ -120,10 +127,23 @@ fn copy_def_kind(alloc: Global, kind: &DefKind, right: Tree) -> Result<DefKind, 
             Ok(DefKind::Function {
                 parameters,
                 places,
-                right,
+                right: next_right(right_sides),
             })
         }
-        DefKind::Current { .. } => Ok(DefKind::Current { right }),
+        DefKind::Current { .. } => Ok(DefKind::Current {
+            right: next_right(right_sides),
+        }),
+    }
+}
+
+// The next of these copies.
+fn next_right(right_sides: &mut IntoIter<Tree>) -> Tree
+    requires { (first : PlainTree) × (rest : List PlainTree) × (into_iter_items right_sides.old ≡ first ∷ rest) }
+    ensures { into_iter_items right_sides.old ≡ result ∷ into_iter_items right_sides.new }
+{
+    match right_sides.next() {
+        Some(right) => right,
+        None => unreachable!(),
     }
 }
 

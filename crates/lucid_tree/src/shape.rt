@@ -4,6 +4,7 @@ ghost use Rattle.lucid_tree.specs.Parts.{operands};
 ghost use Rattle.lucid_tree.specs.Shape.{shape_tree, FitsShape};
 ghost use Rattle.lucid_tree.specs.Size.{count};
 ghost use Rattle.lucid_tree.specs.Tree.{no_trees, tree};
+ghost use Rattle.lucid_tree.specs.View.{tree_of};
 
 use crate::Form;
 use crate::parts::Parts;
@@ -47,15 +48,12 @@ pub enum Shape<'a> {
     },
 }
 
-impl Tree {
-    /// What the root of the tree is.
-    pub fn shape(&self) -> Shape<'_>
-        ensures tree { shape_tree result ≡ self.now }
-        // A form has as many parts as its row looks at.
-        ensures fits { FitsShape result }
+impl Kind {
+    // What the node is that stands at a place.
+    fn shape(&self, at: u32) -> Shape<'_>
+        ensures { shape_tree result ≡ tree_of at self.now }
     {
-        let at = self.at;
-        match &self.kind {
+        match self {
             Kind::Const(value) => none(at, Head::Const(value)),
             Kind::Name(name) => Shape::Name { at, name },
             Kind::Call { name, args } => Shape::Call { at, name, args },
@@ -80,6 +78,17 @@ impl Tree {
                 defs: &block.defs,
             },
         }
+    }
+}
+
+impl Tree {
+    /// What the root of the tree is.
+    pub fn shape(&self) -> Shape<'_>
+        ensures tree { shape_tree result ≡ self.now }
+        // A form has as many parts as its row looks at.
+        ensures fits { FitsShape result }
+    {
+        self.kind.shape(self.at)
     }
 
     /// The parts of a form, or the arguments of a call. Names and blocks have none here.
