@@ -1,5 +1,6 @@
 -- A tree from its nodes: each node takes its parts from piles.
 use Rattle.std.specs.Prelude.{◌≡◌, ℕ, zero, suc, List, [], ◌∷◌, ◌++◌, Option, Some, None, option_and_then, map, Result, Ok, Err, Bool, MatchBool, MatchOption, length, Vec}
+use Rattle.std.specs.Option.{option_map}
 use Rattle.std.specs.Global.{Global}
 use Rattle.lucid_tree.specs.Tree.{const, PlainTree, form, name, call, block, PlainTrees, no_trees, tree}
 use Rattle.lucid_tree.specs.Lists.{trees_of}
@@ -79,10 +80,26 @@ abbrev pub Puts : {E : Type 0} → Result Bool E → code.Piles → Option Plain
 Puts (Ok there) now wanted = MatchBool there (wanted ≡ Some (plain_piles now)) (wanted ≡ None)
 Puts (Err error) now wanted = Unit {0}
 
--- the description took its parameters off the piles where there is one, and lacks them where there is none
-abbrev pub Describes : Option DefKind → List (Vec (List ℕ) Global) → List (Vec ℕ Global) → Option (DefKind × List (List (List ℕ)) × List (List ℕ)) → Type 0
-Describes (Some described) names places wanted = wanted ≡ Some (described, all_items names, all_items places)
-Describes None names places wanted = wanted ≡ None
+-- the same where the right side is the tree on top of its pile, with what is under that too
+abbrev pub kind_on : Defines → List PlainTree → List (List (List ℕ)) → List (List ℕ) → Option (DefKind × List PlainTree × List (List (List ℕ)) × List (List ℕ))
+kind_on defines [] names places = None
+kind_on defines (right_side ∷ trees) names places = option_map (λ all. (all.0, trees, all.1, all.2)) (describe defines right_side names places)
+
+-- the description took its parts off the piles where there is one, and lacks them where there is none
+abbrev pub Describes : Option DefKind → List PlainTree → List (Vec (List ℕ) Global) → List (Vec ℕ Global)
+    → Option (DefKind × List PlainTree × List (List (List ℕ)) × List (List ℕ)) → Type 0
+Describes (Some described) trees names places wanted = wanted ≡ Some (described, trees, all_items names, all_items places)
+Describes None trees names places wanted = wanted ≡ None
+
+-- a pile of lists with an item more at the end of the list on top, where there is one
+abbrev pub with_item : {A : Type 0} → A → List (List A) → Option (List (List A))
+with_item item [] = None
+with_item item (list ∷ lists) = Some ((list ++ item ∷ []) ∷ lists)
+
+-- the item was put there where the answer is true, and there is no list where it is false
+abbrev pub Lengthens : {A E : Type 0} → Result Bool E → A → List (Vec A Global) → List (Vec A Global) → Type 0
+Lengthens (Ok there) item before after = MatchBool there (with_item item (all_items before) ≡ Some (all_items after)) (with_item item (all_items before) ≡ None)
+Lengthens (Err error) item before after = Unit {0}
 
 -- so many trees were taken off the pile, where there were as many
 abbrev pub Takes : ℕ → List PlainTree → Option (Vec PlainTree Global) → List PlainTree → Type 0

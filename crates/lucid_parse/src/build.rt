@@ -8,7 +8,7 @@ ghost use Rattle.lucid_parse.specs.Grammar.{Spells, PlacedTerminal};
 ghost use Rattle.lucid_parse.specs.Fill.{fill_item};
 ghost use Rattle.lucid_parse.specs.Flat.{written};
 ghost use Rattle.lucid_parse.specs.Views.{items_of, name_now, value_now};
-ghost use Rattle.lucid_parse.specs.Build.{all_items, describe, Describes, Takes, no_piles, plain_piles, put_on, Puts};
+ghost use Rattle.lucid_parse.specs.Build.{all_items, kind_on, Describes, Lengthens, Takes, no_piles, plain_piles, put_on, Puts};
 
 use crate::Operator;
 use crate::state::{BorrowedItem, Defines, Item};
@@ -46,24 +46,54 @@ fn pop_parts(
     Ok(Some(parts))
 }
 
-// What a definition of this kind says of its name; a function's parameters are taken off the piles, or nothing is answered where
-// there are none.
+// Puts an item at the end of the list on top of a pile, and answers whether there is one.
+fn push_to_top<T: Drop>(lists: &mut Stack<Vec<T>>, item: T) -> Result<bool, AllocError>
+    ensures { Lengthens result item lists.old lists.new }
+{
+    let Some(mut list) = lists.pop() else {
+        return Ok(false);
+    };
+    list.push(item)?;
+    lists.push(list)?;
+    Ok(true)
+}
+
+// What the definition of a function says of its name; its parameters and its right side are taken off the piles, or nothing is
+// answered where one is lacking.
+fn describe_function(
+    trees: &mut Stack<Tree>,
+    names: &mut Stack<Vec<Name>>,
+    places: &mut Stack<Vec<u32>>,
+) -> Option<DefKind>
+    ensures { Describes result trees.new names.new places.new (kind_on Defines.Function trees.old (all_items names.old) (all_items places.old)) }
+{
+    let parameters = Names::from_vec(names.pop()?);
+    let places = Places32::from_vec(places.pop()?);
+    let right = trees.pop()?;
+    Some(DefKind::Function {
+        parameters,
+        places,
+        right,
+    })
+}
+
+// The same of a definition of any kind.
 fn describe(
+    trees: &mut Stack<Tree>,
     names: &mut Stack<Vec<Name>>,
     places: &mut Stack<Vec<u32>>,
     defines: Defines,
-    right: Tree,
 ) -> Option<DefKind>
-    ensures { Describes result names.new places.new (describe defines right (all_items names.old) (all_items places.old)) }
+    ensures { Describes result trees.new names.new places.new (kind_on defines trees.old (all_items names.old) (all_items places.old)) }
 {
     match defines {
-        Defines::Plain => Some(DefKind::Plain { right }),
-        Defines::Current => Some(DefKind::Current { right }),
-        Defines::Function => Some(DefKind::Function {
-            parameters: Names::from_vec(names.pop()?),
-            places: Places32::from_vec(places.pop()?),
-            right,
+        Defines::Plain => Some(DefKind::Plain {
+            right: trees.pop()?,
         }),
+        Defines::Current => Some(DefKind::Current {
+            right: trees.pop()?,
+        }),
+        Defines::Function => describe_function(trees, names, places),
     }
 }
 
@@ -116,12 +146,10 @@ impl Piles {
     fn put_more(&mut self) -> Result<bool, AllocError>
         ensures { Puts result self.new (put_on Item.More (plain_piles self.old)) }
     {
-        let (Some(tree), Some(mut list)) = (self.trees.pop(), self.lists.pop()) else {
+        let Some(tree) = self.trees.pop() else {
             return Ok(false);
         };
-        list.push(tree)?;
-        self.lists.push(list)?;
-        Ok(true)
+        push_to_top(&mut self.lists, tree)
     }
 
     fn put_call(&mut self, at: u32, name: &Name) -> Result<bool, AllocError>
@@ -149,14 +177,10 @@ impl Piles {
     fn put_param(&mut self, at: u32, name: &Name) -> Result<bool, AllocError>
         ensures { Puts result self.new (put_on (Item.Param at name.now) (plain_piles self.old)) }
     {
-        let (Some(mut names), Some(mut places)) = (self.names.pop(), self.places.pop()) else {
+        if !push_to_top(&mut self.names, name.copy()?)? {
             return Ok(false);
-        };
-        names.push(name.copy()?)?;
-        places.push(at)?;
-        self.names.push(names)?;
-        self.places.push(places)?;
-        Ok(true)
+        }
+        push_to_top(&mut self.places, at)
     }
 
     fn put_no_defs(&mut self, alloc: Global) -> Result<bool, AllocError>
@@ -169,22 +193,21 @@ impl Piles {
     fn put_def(&mut self, defines: Defines, at: u32, name: &Name) -> Result<bool, AllocError>
         ensures { Puts result self.new (put_on (Item.Def defines at name.now) (plain_piles self.old)) }
     {
-        let (Some(right), Some(mut defs)) = (self.trees.pop(), self.blocks.pop()) else {
-            return Ok(false);
-        };
-        let Some(kind) = describe(&mut self.names, &mut self.places, defines, right) else {
-            return Ok(false);
-        };
         let name = name.copy()?;
-        defs.push(Def { at, name, kind })?;
-        self.blocks.push(defs)?;
-        Ok(true)
+        let kind = describe(&mut self.trees, &mut self.names, &mut self.places, defines);
+        let Some(kind) = kind else {
+            return Ok(false);
+        };
+        push_to_top(&mut self.blocks, Def { at, name, kind })
     }
 
     fn put_block(&mut self, alloc: Global, at: u32) -> Result<bool, AllocError>
         ensures { Puts result self.new (put_on (Item.Block at) (plain_piles self.old)) }
     {
-        let (Some(subject), Some(items)) = (self.trees.pop(), self.blocks.pop()) else {
+        let Some(items) = self.blocks.pop() else {
+            return Ok(false);
+        };
+        let Some(subject) = self.trees.pop() else {
             return Ok(false);
         };
         let defs = Defs::from_vec(items);
