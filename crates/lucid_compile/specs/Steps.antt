@@ -6,23 +6,29 @@ use Rattle.lucid_tree.specs.declared.tree.DefKind.{DefKind}
 use Rattle.lucid_tree.specs.declared.tree.DefKind.TheVariants.{Plain as PlainKind, Function as FunctionKind, Current as CurrentKind}
 use Rattle.lucid_tree.specs.Size.{count}
 use Rattle.lucid_tree.specs.Shape.{FitsHead}
-use Rattle.lucid_scope.specs.Scoped.{scoped_binding}
+use Rattle.lucid_tree.specs.WellMade.{IsWellMade}
+use Rattle.lucid_scope.specs.Bindings.{IsResolved}
+use Rattle.lucid_scope.specs.Scoped.{scoped_tree, scoped_inputs, scoped_binding}
+use Rattle.lucid_scope.specs.declared.scoped.Scoped.{Scoped}
 use Rattle.lucid_compile.specs.Static.{Static, outermost, in_body}
 use Rattle.lucid_compile.specs.Places.{first_place}
 use Rattle.lucid_equations.specs.declared.rows.NameRow.{NameRow}
 use Rattle.lucid_equations.specs.declared.rows.Entry.TheVariants.{Plain, Parameter, Current, Called}
 use Rattle.lucid_equations.specs.declared.table.Table.{Table}
 use Rattle.lucid_equations.specs.Sound.{ScopeIs}
-use Rattle.lucid_equations.specs.declared.rows.ScopeKind.TheVariants.{Called as CalledScope}
+use Rattle.lucid_equations.specs.declared.rows.ScopeKind.TheVariants.{Root, Called as CalledScope}
 use Rattle.lucid_compile.specs.declared.building.Here.{Here}
 use Rattle.lucid_compile.specs.declared.building.Body.{Body}
+use Rattle.lucid_compile.specs.declared.building.Rows.{Rows}
 use Rattle.lucid_compile.specs.declared.linking.Source.{Source}
 use Rattle.lucid_compile.specs.declared.numbering.Key.{Key}
+use Rattle.lucid_compile.specs.declared.numbering.Numbering.{Numbering}
 use Rattle.lucid_compile.specs.Numbered.{function_mark}
-use Rattle.lucid_compile.specs.Keys.{plain_key, function_key}
-use Rattle.lucid_compile.specs.Building.{Lists, with_name, with_body, OneScope}
+use Rattle.lucid_compile.specs.Keys.{plain_key, function_key, IsNumberingOf}
+use Rattle.lucid_compile.specs.Building.{Lists, no_lists, with_name, with_body, OneScope}
 use Rattle.lucid_compile.specs.Notes.{Note, note, opening, called_right}
 use Rattle.lucid_compile.specs.Bound.{Numbered, callee_place, FunctionStand, Log, with_parameters}
+use Rattle.lucid_compile.specs.Linked.{link}
 use Rattle.lucid_compile.specs.Holds.{StandsAt, Holds, Grown, AddsTree, AddsTrees}
 
 abbrev pub numbered : Source → Numbered
@@ -93,6 +99,28 @@ rows_of_calls w bs ks = map (λ k. row_by (slice_get bs (callee_number w k.at)))
 -- the names' rows, and after them those of the calls
 abbrev pub with_calls : Numbered → Lists → Lists
 with_calls w l = with_names (l.names ++ rows_of_calls w l.bodies l.keys.calls) l
+
+-- the lists of the rows of a tree that was resolved, with the number of its root's node: a scope was opened, the tree walked, and the rows linked
+pub record AreRowsOf (scoped : Scoped) (after : Lists) (root : ℕ) : Type 0 where
+  pub well_made : IsWellMade (scoped_tree scoped)
+  pub resolved : ∥ IsResolved (scoped_tree scoped) (scoped_inputs scoped) (scoped_binding scoped) ∥₁
+  pub scope : ℕ
+  pub opened : Lists
+  pub opens : OneScope no_lists opened (record { parent = 0; kind = Root }) scope
+  pub walked : Lists
+  pub adds : (w : Numbered) → AddsTree w (link w opened) (link w walked) (record { scope = scope; level = 0 }) (scoped_tree scoped) root
+  pub numbering : Numbering
+  pub numbers : IsNumberingOf walked.keys numbering
+  pub links : after ≡ with_calls (record { numbering = numbering; scoped = scoped }) (link (record { numbering = numbering; scoped = scoped }) walked)
+
+-- lists of rows, and of inputs, whose items numbers of 32 bits can count
+pub record AreFew (rows : Rows) (inputs : List (List ℕ)) : Type 0 where
+  pub few_inputs : length inputs < 2 ^ 32
+  pub few_scopes : length rows.scopes.items < 2 ^ 32
+  pub few_constants : length rows.constants.items < 2 ^ 32
+  pub few_nodes : length rows.nodes.items < 2 ^ 32
+  pub few_names : length rows.names.items < 2 ^ 32
+  pub few_places : length rows.places.items < 2 ^ 32
 
 -- the table of some lists
 pub record IsTableOf (l : Lists) (inputs : List (List ℕ)) (root : ℕ) (t : Table) : Type 0 where

@@ -12,11 +12,11 @@ ghost use Rattle.lucid_equations.specs.Rows.{node_at};
 ghost use Rattle.lucid_compile.specs.Static.{freezes};
 ghost use Rattle.lucid_compile.specs.Places.{first_place as place_of_first};
 ghost use Rattle.lucid_compile.specs.Bound.{Numbered};
-ghost use Rattle.lucid_compile.specs.Building.{lists, OneScope};
+ghost use Rattle.lucid_compile.specs.Building.{lists, no_lists, OneScope};
 ghost use Rattle.lucid_compile.specs.Linked.{linked};
 ghost use Rattle.lucid_compile.specs.Forms.{HasFirst};
 ghost use Rattle.lucid_compile.specs.Holds.{AddsTree};
-ghost use Rattle.lucid_compile.specs.Steps.{IsNode, AddsForm, AddsCall, AddsNode, AddsBlock, AddsParameters, OpensRight, ClosesRight, IsTableOf};
+ghost use Rattle.lucid_compile.specs.Steps.{IsNode, AreRowsOf, AreFew, AddsForm, AddsCall, AddsNode, AddsBlock, AddsParameters, OpensRight, ClosesRight, IsTableOf};
 
 use crate::building::{Body, Here, Rows};
 use crate::forms::form_node;
@@ -267,9 +267,9 @@ fn add_parameters(rows: &mut Rows, places: &Places32, here: Here) -> Result<(), 
     Ok(())
 }
 
-// The table of the lists, whose root is a node.
-fn table_of(rows: Rows, inputs: Vec<Name>, root: u32) -> Result<Table, AllocError>
-    ensures { IfOk result (λ table. IsTableOf (lists rows) inputs.items root table) }
+// Counts the rows and the inputs: numbers of 32 bits have to do.
+fn count_rows(rows: &Rows, inputs: &[Name]) -> Result<(), AllocError>
+    ensures { OnOk result (AreFew rows.now inputs.now) }
 {
     number(inputs.len())?;
     number(rows.scopes.len())?;
@@ -277,6 +277,14 @@ fn table_of(rows: Rows, inputs: Vec<Name>, root: u32) -> Result<Table, AllocErro
     number(rows.nodes.len())?;
     number(rows.names.len())?;
     number(rows.places.len())?;
+    Ok(())
+}
+
+// The table of the lists, whose root is a node.
+fn table_of(rows: Rows, inputs: Vec<Name>, root: u32) -> Result<Table, AllocError>
+    ensures { IfOk result (λ table. IsTableOf (lists rows) inputs.items root table) }
+{
+    count_rows(&rows, &inputs)?;
     Ok(Table {
         scopes: ScopeRows::from_vec(rows.scopes),
         inputs: Names::from_vec(inputs),
@@ -299,6 +307,23 @@ fn copied(alloc: Global, names: &[Name]) -> Result<Vec<Name>, AllocError>
     Ok(made)
 }
 
+// Fills the rows with those of a tree that was resolved, and links them. The number of its root's node.
+fn fill(alloc: Global, rows: &mut Rows, scoped: &Scoped) -> Result<u32, AllocError>
+    requires { lists rows.old ≡ no_lists }
+    ensures { IfOk result (λ root. AreRowsOf scoped.now (lists rows.new) root) }
+{
+    let tree = scoped.tree();
+    let scope = rows.open(0, ScopeKind::Root)?;
+    let mut ids = Vec::new(alloc);
+    let root = add_tree(alloc, rows, &mut ids, tree, Here { scope, level: 0 })?;
+    let mut numbering = Numbering::make(alloc);
+    numbering.number_all(&rows.keys)?;
+    let numbering = &numbering;
+    let source = Source { scoped, numbering };
+    link_rows(&source, rows)?;
+    Ok(root)
+}
+
 /// The program of a tree that was resolved. Its table keeps the tree: the same approximations at every limit and point, also with
 /// held values, the same elements consulted, as many different datons. With at most 1,048,576 inputs the table is sound. Its inputs are
 /// the tree's, in their order. The walk is linear in the tree. The one refusal is want of memory, also where a list of rows would pass
@@ -312,17 +337,9 @@ pub fn compile(alloc: Global, scoped: &Scoped) -> Result<Program, AllocError>
 {
     // For the proof: the free names are the inputs.
     free_names_are_inputs();
-    let tree = scoped.tree();
-    let mut rows = Rows::make(alloc);
-    let scope = rows.open(0, ScopeKind::Root)?;
-    let mut ids = Vec::new(alloc);
-    let root = add_tree(alloc, &mut rows, &mut ids, tree, Here { scope, level: 0 })?;
-    let mut numbering = Numbering::make(alloc);
-    numbering.number_all(&rows.keys)?;
-    let numbering = &numbering;
-    let source = Source { scoped, numbering };
-    link_rows(&source, &mut rows)?;
     let inputs = copied(alloc, scoped.inputs())?;
+    let mut rows = Rows::make(alloc);
+    let root = fill(alloc, &mut rows, scoped)?;
     let table = table_of(rows, inputs, root)?;
     match Program::make(alloc, table)? {
         Some(program) => Ok(program),

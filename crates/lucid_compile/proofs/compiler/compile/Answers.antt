@@ -1,7 +1,9 @@
-use Rattle.lucid_compile.proofs.Common.{◌≡◌, ◌≤◌, length, arith, true, false, Option, Some, None, ap, sym, ◌∙◌, subst, AllDiffer, scoped_tree, scoped_inputs, Table, IsInRange, equations_of, IsSound, lists, Numbered, KeepsTree, ◌↔◌, is_some, IfSome, Program, table_of}
+use Rattle.lucid_compile.proofs.Common.{◌≡◌, ◌≤◌, length, arith, true, false, Option, Some, None, ap, sym, ◌∙◌, subst, AllDiffer, refl, scoped_tree, scoped_inputs, Table, IsInRange, equations_of, IsSound, lists, Numbered, KeepsTree, ◌↔◌, is_some, IfSome, Program, table_of}
 use Rattle.lucid_equations.specs.Rows.{node_at}
+use Rattle.lucid_compile.specs.Building.{no_lists}
+use Rattle.lucid_compile.specs.Steps.{AreRowsOf}
 use Rattle.lucid_compile.specs.Meant.{NodesMeanTheirPieces}
-use Rattle.lucid_compile.proofs.Final.{IsMade, keys-apart, table-made}
+use Rattle.lucid_compile.proofs.Final.{IsMade, table-made}
 use Rattle.lucid_compile.proofs.compiler.compile.Goals as goal
 
 -- the table of the program that was made
@@ -14,35 +16,16 @@ never-none o t e h r d =
     let q : false ≡ true = sym (ap is_some e) ∙ h.1 (r, d) in
     cc
 
-pub number_all-requires-clause-names : goal.number_all-requires-clause-names
-number_all-requires-clause-names c =
-    (keys-apart (record { numbering = c.make-numbering.result; scoped = c.args.scoped.now }) (lists c.make-rows.result) (lists c.open.new.self)
-    (lists c.add_tree.new.rows) c.tree-tree.result.now c.in_ok-scope.scope c.in_ok-root.root c.tree-tree.ensures.well_made c.tree-tree.ensures.resolved
-    c.make-rows.ensures c.in_ok-scope.ensures c.tree-tree.ensures.value c.in_ok-root.ensures.adds).names
-
-pub number_all-requires-clause-places : goal.number_all-requires-clause-places
-number_all-requires-clause-places c =
-    (keys-apart (record { numbering = c.make-numbering.result; scoped = c.args.scoped.now }) (lists c.make-rows.result) (lists c.open.new.self)
-    (lists c.add_tree.new.rows) c.tree-tree.result.now c.in_ok-scope.scope c.in_ok-root.root c.tree-tree.ensures.well_made c.tree-tree.ensures.resolved
-    c.make-rows.ensures c.in_ok-scope.ensures c.tree-tree.ensures.value c.in_ok-root.ensures.adds).places
-
-pub number_all-requires-clause-functions : goal.number_all-requires-clause-functions
-number_all-requires-clause-functions c =
-    (keys-apart (record { numbering = c.make-numbering.result; scoped = c.args.scoped.now }) (lists c.make-rows.result) (lists c.open.new.self)
-    (lists c.add_tree.new.rows) c.tree-tree.result.now c.in_ok-scope.scope c.in_ok-root.root c.tree-tree.ensures.well_made c.tree-tree.ensures.resolved
-    c.make-rows.ensures c.in_ok-scope.ensures c.tree-tree.ensures.value c.in_ok-root.ensures.adds).functions
-
 pub returns : goal.returns
 returns c =
-    let w : Numbered = record { numbering = c.number_all.new.self; scoped = c.args.scoped.now } in
+    let rows : AreRowsOf c.args.scoped.now (lists c.fill.new.rows) c.in_ok-root.root = c.in_ok-root.ensures in
+    let w : Numbered = record { numbering = rows.numbering; scoped = c.args.scoped.now } in
     let t : Table = c.in_ok-table.table in
     let inputs : c.in_ok-inputs.inputs.items ≡ scoped_inputs c.args.scoped.now = c.in_ok-inputs.ensures ∙ c.inputs.ensures.value in
     let names : t.inputs ≡ scoped_inputs c.args.scoped.now = c.in_ok-table.ensures.inputs_are ∙ inputs in
     let made : IsMade w (scoped_tree c.args.scoped.now) t =
-    table-made w (lists c.make-rows.result) (lists c.open.new.self) (lists c.add_tree.new.rows) c.tree-tree.result.now c.in_ok-scope.scope c.in_ok-root.root
-    c.tree-tree.ensures.well_made c.tree-tree.ensures.resolved c.make-rows.ensures c.in_ok-scope.ensures c.tree-tree.ensures.value c.in_ok-root.ensures.adds
-    (lists c.link_rows.new.rows) c.in_ok-inputs.inputs.items t c.free_names_are_inputs.ensures c.in_ok-number_all.ensures c.in_ok-link_rows.ensures inputs
-    c.in_ok-table.ensures in
+    table-made w no_lists rows.opened rows.walked (scoped_tree c.args.scoped.now) rows.scope c.in_ok-root.root rows.well_made rows.resolved refl rows.opens refl
+    rows.adds (lists c.fill.new.rows) c.in_ok-inputs.inputs.items t c.free_names_are_inputs.ensures rows.numbers rows.links inputs c.in_ok-table.ensures in
     let same : table_of c.in-Some.program ≡ t = table-is c.in_ok-program.field-0 c.in-Some.program t c.in-Some.is c.in_ok-program.ensures.table in
     let sound : length (scoped_inputs c.args.scoped.now) ≤ 1048576
     → IsSound t = λ few. made.sound (subst AllDiffer (sym names) c.inputs.ensures.differ) (omega (arith, ap length names, few)) in
@@ -56,13 +39,12 @@ returns c =
 
 pub unreachable-requires : goal.unreachable-requires
 unreachable-requires c =
-    let w : Numbered = record { numbering = c.number_all.new.self; scoped = c.args.scoped.now } in
+    let rows : AreRowsOf c.args.scoped.now (lists c.fill.new.rows) c.in_ok-root.root = c.in_ok-root.ensures in
+    let w : Numbered = record { numbering = rows.numbering; scoped = c.args.scoped.now } in
     let t : Table = c.in_ok-table.table in
     let inputs : c.in_ok-inputs.inputs.items ≡ scoped_inputs c.args.scoped.now = c.in_ok-inputs.ensures ∙ c.inputs.ensures.value in
     let made : IsMade w (scoped_tree c.args.scoped.now) t =
-    table-made w (lists c.make-rows.result) (lists c.open.new.self) (lists c.add_tree.new.rows) c.tree-tree.result.now c.in_ok-scope.scope c.in_ok-root.root
-    c.tree-tree.ensures.well_made c.tree-tree.ensures.resolved c.make-rows.ensures c.in_ok-scope.ensures c.tree-tree.ensures.value c.in_ok-root.ensures.adds
-    (lists c.link_rows.new.rows) c.in_ok-inputs.inputs.items t c.free_names_are_inputs.ensures c.in_ok-number_all.ensures c.in_ok-link_rows.ensures inputs
-    c.in_ok-table.ensures in
+    table-made w no_lists rows.opened rows.walked (scoped_tree c.args.scoped.now) rows.scope c.in_ok-root.root rows.well_made rows.resolved refl rows.opens refl
+    rows.adds (lists c.fill.new.rows) c.in_ok-inputs.inputs.items t c.free_names_are_inputs.ensures rows.numbers rows.links inputs c.in_ok-table.ensures in
     never-none c.in_ok-program.field-0 t c.in-None.is c.in_ok-program.ensures.exactly made.in_range
     (subst AllDiffer (sym (c.in_ok-table.ensures.inputs_are ∙ inputs)) c.inputs.ensures.differ)
