@@ -9,6 +9,7 @@ use Rattle.lucid_show_grid.specs.declared.grid.Mark.{Mark}
 use Rattle.lucid_show_grid.specs.declared.grid.Line.{Line}
 use Rattle.lucid_show_grid.specs.declared.grid.Panel.{Panel}
 use Rattle.lucid_show_grid.specs.declared.grid.Arrow.{Arrow}
+use Rattle.lucid_show_grid.specs.declared.parts.Part.{Part}
 use Rattle.lucid_show_grid.specs.declared.places.Frame.{Frame}
 use Rattle.lucid_show_grid.specs.declared.places.Placed.{Placed}
 use Rattle.lucid_show_grid.specs.declared.widths.Columns.{Columns}
@@ -20,6 +21,7 @@ use Rattle.lucid_show_grid.specs.Escapes.{escaped, escaped_byte}
 use Rattle.lucid_show_grid.specs.Places.{PlainPlaced, below, bottom, frame_of, index_of, plain_placed, place_lines, place_mark, place_panels}
 use Rattle.lucid_show_grid.specs.Arrows.{arrow_text, arrows_text, place_of}
 use Rattle.lucid_show_grid.specs.Boxes.{box_text, boxes_text}
+use Rattle.lucid_show_grid.specs.Parts.{part_text, parts_text}
 use Rattle.lucid_show_grid.specs.Picture.{across, frame_text, head_text, heads, name_text, names, panel_frames, right_edge}
 
 pub labels_more : (n : ℕ) (ls : List Line) (i : ℕ) (d : Line) → i < length ls
@@ -77,6 +79,11 @@ pub escaped_more : (bs : List ℕ) (i : ℕ) (d : ℕ) → i < length bs
     → escaped (drop i bs)
     ≡ escaped_byte (get_or bs i d) ++ escaped (drop (i + 1) bs)
 escaped_more bs i d h = at_drop_more (λ xs. escaped xs) bs i d h
+
+pub parts_more : (ps : List Part) (i : ℕ) (d : Part) → i < length ps
+    → parts_text (drop i ps)
+    ≡ part_text (get_or ps i d) ++ parts_text (drop (i + 1) ps)
+parts_more ps i d h = at_drop_more (λ xs. parts_text xs) ps i d h
 
 pub index_more : (t : ℕ) (ts : List ℕ) (i : ℕ) (d : ℕ) → i < length ts
     → index_of (drop i ts) t

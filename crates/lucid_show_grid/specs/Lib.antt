@@ -6,5 +6,6 @@ pub mod Escapes
 pub mod Places
 pub mod Arrows
 pub mod Boxes
+pub mod Parts
 pub mod Picture
 pub mod Laws

@@ -4,6 +4,8 @@ ghost use Rattle.lucid_show_grid.specs.Places.{plain_placed};
 ghost use Rattle.lucid_show_grid.specs.Arrows.{is_beside, bend_between, aside, point_text, straight_text, curved_text, between, arrow_text, place_of, arrows_text};
 
 use crate::grid::Arrow;
+use crate::parts::Part::{Point, Text};
+use crate::parts::put_parts;
 use crate::places::{Place, Placed, middle, plus};
 use crate::put::{put_digits, put_text};
 use std::alloc::AllocError;
@@ -76,9 +78,9 @@ fn aside(from: Place, to: Place) -> Result<u64, AllocError>
     Ok(0)
 }
 
-// Appends a point of a path.
+/// Appends a point of a path.
 #[tactic(auto, unfolding(crate::specs::Arrows::point_text))]
-fn put_point(to: &mut Vec<u8>, x: u64, y: u64) -> Result<(), AllocError>
+pub(crate) fn put_point(to: &mut Vec<u8>, x: u64, y: u64) -> Result<(), AllocError>
     ensures { OnOk result (to.new.items ≡ to.old.items ++ point_text x y) }
 {
     put_text(to, b" ")?;
@@ -92,11 +94,18 @@ fn put_point(to: &mut Vec<u8>, x: u64, y: u64) -> Result<(), AllocError>
 fn put_straight(to: &mut Vec<u8>, from: Place, target: Place) -> Result<(), AllocError>
     ensures { OnOk result (to.new.items ≡ to.old.items ++ straight_text from target) }
 {
-    put_text(to, b"<path class=\"arrow\" d=\"M")?;
-    put_point(to, from.x, plus(from.y, 15)?)?;
-    put_text(to, b" L")?;
-    put_point(to, plus(target.x, target.width)?, plus(target.y, 15)?)?;
-    put_text(to, b"\"/>\n")
+    let begin_y = plus(from.y, 15)?;
+    let (end_x, end_y) = (plus(target.x, target.width)?, plus(target.y, 15)?);
+    put_parts(
+        to,
+        &[
+            Text(b"<path class=\"arrow\" d=\"M"),
+            Point(from.x, begin_y),
+            Text(b" L"),
+            Point(end_x, end_y),
+            Text(b"\"/>\n"),
+        ],
+    )
 }
 
 // Appends an arrow with a bend, so far aside.
@@ -104,13 +113,18 @@ fn put_straight(to: &mut Vec<u8>, from: Place, target: Place) -> Result<(), Allo
 fn put_curved(to: &mut Vec<u8>, bend: Bend, aside: u64) -> Result<(), AllocError>
     ensures { OnOk result (to.new.items ≡ to.old.items ++ curved_text bend aside) }
 {
-    put_text(to, b"<path class=\"arrow\" d=\"M")?;
-    put_point(to, bend.begin_x, bend.begin_y)?;
-    put_text(to, b" C")?;
-    put_point(to, bend.begin_x.saturating_sub(aside), bend.leave_y)?;
-    put_point(to, bend.end_x.saturating_sub(aside), bend.reach_y)?;
-    put_point(to, bend.end_x, bend.end_y)?;
-    put_text(to, b"\"/>\n")
+    put_parts(
+        to,
+        &[
+            Text(b"<path class=\"arrow\" d=\"M"),
+            Point(bend.begin_x, bend.begin_y),
+            Text(b" C"),
+            Point(bend.begin_x.saturating_sub(aside), bend.leave_y),
+            Point(bend.end_x.saturating_sub(aside), bend.reach_y),
+            Point(bend.end_x, bend.end_y),
+            Text(b"\"/>\n"),
+        ],
+    )
 }
 
 // Appends the arrow from a box to another.

@@ -3,8 +3,10 @@ ghost use Rattle.std.specs.Prelude.{◌≡◌, ◌++◌, OnOk, map};
 ghost use Rattle.lucid_show_grid.specs.Places.{plain_placed};
 ghost use Rattle.lucid_show_grid.specs.Boxes.{class_text, corner, output_text, edges_text, value_text, box_text, boxes_text};
 
-use crate::escape::{put_attribute, put_escaped, put_label};
+use crate::escape::put_label;
 use crate::grid::Kind;
+use crate::parts::Part::{Attribute, Escaped, Text};
+use crate::parts::put_parts;
 use crate::places::{Place, Placed, middle, plus};
 use crate::put::put_text;
 use std::alloc::AllocError;
@@ -46,11 +48,16 @@ fn output_class(is_output: bool) -> &'static [u8]
 fn put_edges(to: &mut Vec<u8>, place: Place, kind: Kind) -> Result<(), AllocError>
     ensures { OnOk result (to.new.items ≡ to.old.items ++ edges_text place kind) }
 {
-    put_attribute(to, b"x", place.x)?;
-    put_attribute(to, b"y", place.y)?;
-    put_attribute(to, b"width", place.width)?;
-    put_attribute(to, b"height", 30)?;
-    put_attribute(to, b"rx", corner(kind))
+    put_parts(
+        to,
+        &[
+            Attribute(b"x", place.x),
+            Attribute(b"y", place.y),
+            Attribute(b"width", place.width),
+            Attribute(b"height", 30),
+            Attribute(b"rx", corner(kind)),
+        ],
+    )
 }
 
 // Appends a value in the middle of its box.
@@ -68,12 +75,17 @@ fn put_box(to: &mut Vec<u8>, placed: &Placed<'_>) -> Result<(), AllocError>
 {
     let place = placed.place;
     let mark = placed.mark;
-    put_text(to, b"<g><title>")?;
-    put_escaped(to, &mark.told)?;
-    put_text(to, b"</title><rect class=\"")?;
-    put_text(to, class_of(mark.kind))?;
-    put_text(to, output_class(mark.is_output))?;
-    put_text(to, b"\"")?;
+    put_parts(
+        to,
+        &[
+            Text(b"<g><title>"),
+            Escaped(&mark.told),
+            Text(b"</title><rect class=\""),
+            Text(class_of(mark.kind)),
+            Text(output_class(mark.is_output)),
+            Text(b"\""),
+        ],
+    )?;
     put_edges(to, place, mark.kind)?;
     put_text(to, b"/>")?;
     put_value(to, place, &mark.value)?;
@@ -81,7 +93,6 @@ fn put_box(to: &mut Vec<u8>, placed: &Placed<'_>) -> Result<(), AllocError>
 }
 
 /// Appends the boxes of values.
-#[tactic(auto, using(crate::proofs::Loops::boxes_more))]
 pub(crate) fn put_boxes(to: &mut Vec<u8>, values: &[Placed<'_>]) -> Result<(), AllocError>
     ensures { OnOk result (to.new.items ≡ to.old.items ++ boxes_text (map plain_placed values.now)) }
 {

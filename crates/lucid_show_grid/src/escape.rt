@@ -2,6 +2,8 @@
 ghost use Rattle.std.specs.Prelude.{◌≡◌, ◌++◌, OnOk};
 ghost use Rattle.lucid_show_grid.specs.Escapes.{escaped_byte, escaped, attribute_text, label_text};
 
+use crate::parts::Part::{Attribute, Escaped, Text};
+use crate::parts::put_parts;
 use crate::put::{put_digits, put_text};
 use std::alloc::AllocError;
 
@@ -32,7 +34,6 @@ fn put_byte(to: &mut Vec<u8>, byte: u8) -> Result<(), AllocError>
 }
 
 /// Appends a text as it stands between tags.
-#[tactic(auto, using(crate::proofs::Loops::escaped_more))]
 pub(crate) fn put_escaped(to: &mut Vec<u8>, text: &[u8]) -> Result<(), AllocError>
     ensures { OnOk result (to.new.items ≡ to.old.items ++ escaped text.now) }
 {
@@ -56,21 +57,26 @@ pub(crate) fn put_attribute(to: &mut Vec<u8>, name: &[u8], number: u64) -> Resul
 
 /// Appends a text of a class at a point.
 #[tactic(auto, unfolding(crate::specs::Escapes::label_text))]
-pub(crate) fn put_label(
+pub(crate) fn put_label<'a>(
     to: &mut Vec<u8>,
-    class: &[u8],
+    class: &'a [u8],
     x: u64,
     y: u64,
-    text: &[u8],
+    text: &'a [u8],
 ) -> Result<(), AllocError>
     ensures { OnOk result (to.new.items ≡ to.old.items ++ label_text class.now x y text.now) }
 {
-    put_text(to, b"<text class=\"")?;
-    put_text(to, class)?;
-    put_text(to, b"\"")?;
-    put_attribute(to, b"x", x)?;
-    put_attribute(to, b"y", y)?;
-    put_text(to, b">")?;
-    put_escaped(to, text)?;
-    put_text(to, b"</text>\n")
+    put_parts(
+        to,
+        &[
+            Text(b"<text class=\""),
+            Text(class),
+            Text(b"\""),
+            Attribute(b"x", x),
+            Attribute(b"y", y),
+            Text(b">"),
+            Escaped(text),
+            Text(b"</text>\n"),
+        ],
+    )
 }

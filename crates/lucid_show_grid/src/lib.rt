@@ -10,6 +10,7 @@ mod boxes;
 mod escape;
 mod grid;
 pub mod laws;
+mod parts;
 mod picture;
 mod places;
 mod put;

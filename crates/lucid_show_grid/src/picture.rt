@@ -6,12 +6,14 @@ ghost use Rattle.lucid_show_grid.specs.Picture.{across, head_text, heads, name_t
 
 use crate::arrows::put_arrows;
 use crate::boxes::put_boxes;
-use crate::escape::{put_attribute, put_escaped, put_label};
+use crate::escape::put_label;
 use crate::grid::{Grid, Line, Panel};
+use crate::parts::Part::{Attribute, Escaped, Number, Text};
+use crate::parts::put_parts;
 use crate::places::{
     Frame, below, bottom, frame_of, height, middle, place_at, place_panels, plus, times,
 };
-use crate::put::{put_digits, put_left_out, put_text};
+use crate::put::{put_left_out, put_text};
 use itoa::Buffer;
 use std::alloc::{AllocError, Global};
 
@@ -45,7 +47,6 @@ fn put_head(to: &mut Vec<u8>, frame: Frame, column: u64, time: u64) -> Result<()
 }
 
 // Appends the times across.
-#[tactic(auto, using(crate::proofs::Loops::heads_more))]
 fn put_heads(to: &mut Vec<u8>, frame: Frame, times: &[u64]) -> Result<(), AllocError>
     ensures { OnOk result (to.new.items ≡ to.old.items ++ heads frame 0 times.now) }
 {
@@ -65,7 +66,6 @@ fn put_name(to: &mut Vec<u8>, frame: Frame, number: u64, line: &Line) -> Result<
 }
 
 // Appends the names.
-#[tactic(auto, using(crate::proofs::Loops::names_more))]
 fn put_names(to: &mut Vec<u8>, frame: Frame, lines: &[Line]) -> Result<(), AllocError>
     ensures { OnOk result (to.new.items ≡ to.old.items ++ names frame 0 (map plain_line lines.now)) }
 {
@@ -80,13 +80,20 @@ fn put_names(to: &mut Vec<u8>, frame: Frame, lines: &[Line]) -> Result<(), Alloc
 fn put_edge(to: &mut Vec<u8>, panel: &Panel, frame: Frame) -> Result<(), AllocError>
     ensures { OnOk result (to.new.items ≡ to.old.items ++ edge_text frame (plain_panel panel.now)) }
 {
-    put_text(to, b"<rect class=\"panel\"")?;
-    put_attribute(to, b"x", 12)?;
-    put_attribute(to, b"y", frame.top)?;
-    put_attribute(to, b"width", plus(across(panel, frame)?, 16)?)?;
-    put_attribute(to, b"height", height(panel)?)?;
-    put_attribute(to, b"rx", 8)?;
-    put_text(to, b"/>\n")
+    let width = plus(across(panel, frame)?, 16)?;
+    let height = height(panel)?;
+    put_parts(
+        to,
+        &[
+            Text(b"<rect class=\"panel\""),
+            Attribute(b"x", 12),
+            Attribute(b"y", frame.top),
+            Attribute(b"width", width),
+            Attribute(b"height", height),
+            Attribute(b"rx", 8),
+            Text(b"/>\n"),
+        ],
+    )
 }
 
 // Appends the edge of a panel, its title, the times across, and the names.
@@ -109,7 +116,6 @@ fn put_panel(to: &mut Vec<u8>, panel: &Panel, top: u64) -> Result<(), AllocError
 }
 
 // Appends the frames of panels.
-#[tactic(auto, using(crate::proofs::Loops::panel_frames_more))]
 fn put_panels(to: &mut Vec<u8>, panels: &[Panel], top: u64) -> Result<(), AllocError>
     ensures { OnOk result (to.new.items ≡ to.old.items ++ panel_frames top (map plain_panel panels.now)) }
 {
@@ -162,13 +168,18 @@ fn foot_of(grid: &Grid) -> Result<u64, AllocError>
 fn put_size(to: &mut Vec<u8>, width: u64, height: u64) -> Result<(), AllocError>
     ensures { OnOk result (to.new.items ≡ to.old.items ++ size_text width height) }
 {
-    put_attribute(to, b"width", width)?;
-    put_attribute(to, b"height", height)?;
-    put_text(to, b" viewBox=\"0 0 ")?;
-    put_digits(to, width)?;
-    put_text(to, b" ")?;
-    put_digits(to, height)?;
-    put_text(to, b"\"")
+    put_parts(
+        to,
+        &[
+            Attribute(b"width", width),
+            Attribute(b"height", height),
+            Text(b" viewBox=\"0 0 "),
+            Number(width),
+            Text(b" "),
+            Number(height),
+            Text(b"\""),
+        ],
+    )
 }
 
 // Appends the head of the file: its size, what it is for readers of screens, and the styles.
@@ -182,13 +193,15 @@ fn put_opening(to: &mut Vec<u8>, grid: &Grid) -> Result<(), AllocError>
         b"<svg xmlns=\"http://www.w3.org/2000/svg\" version=\"1.1\" xml:space=\"preserve\"",
     )?;
     put_size(to, width, height)?;
-    put_text(
+    put_parts(
         to,
-        b" font-family=\"DejaVu Sans, Verdana, sans-serif\" font-size=\"13\">\n<title>",
-    )?;
-    put_escaped(to, &grid.heading)?;
-    put_text(to, ABOUT)?;
-    put_text(to, STYLE)
+        &[
+            Text(b" font-family=\"DejaVu Sans, Verdana, sans-serif\" font-size=\"13\">\n<title>"),
+            Escaped(&grid.heading),
+            Text(ABOUT),
+            Text(STYLE),
+        ],
+    )
 }
 
 // Appends how many values are left out, where there are such.
@@ -214,14 +227,20 @@ fn put_heading(alloc: Global, to: &mut Vec<u8>, grid: &Grid) -> Result<(), Alloc
 }
 
 // Appends what each kind of box is, at the foot, and the end of the file.
-#[tactic(auto, unfolding(crate::specs::Picture::closing_text))]
+#[tactic(auto, unfolding(crate::specs::Picture::closing_text, crate::specs::Picture::key))]
 fn put_closing(to: &mut Vec<u8>, grid: &Grid) -> Result<(), AllocError>
     ensures { OnOk result (to.new.items ≡ to.old.items ++ closing_text (plain_grid grid.now)) }
 {
-    put_text(to, b"<g transform=\"translate(20 ")?;
-    put_digits(to, plus(foot_of(grid)?, 4)?)?;
-    put_text(to, KEY)?;
-    put_text(to, b"</svg>\n")
+    let top = plus(foot_of(grid)?, 4)?;
+    put_parts(
+        to,
+        &[
+            Text(b"<g transform=\"translate(20 "),
+            Number(top),
+            Text(KEY),
+            Text(b"</svg>\n"),
+        ],
+    )
 }
 
 /// The grid as a picture: the frames of its panels, an arrow from each value to each that it needed, and a box for each value.

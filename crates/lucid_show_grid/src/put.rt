@@ -2,6 +2,8 @@
 ghost use Rattle.std.specs.Prelude.{◌≡◌, ◌++◌, OnOk, decimal};
 ghost use Rattle.lucid_show_grid.specs.Fields.{blanks, left, right, left_out_text};
 
+use crate::parts::Part::{Number, Text};
+use crate::parts::put_parts;
 use itoa::Buffer;
 use std::alloc::AllocError;
 
@@ -61,9 +63,14 @@ pub(crate) fn put_number(to: &mut Vec<u8>, number: u64, columns: usize) -> Resul
 pub(crate) fn put_left_out(to: &mut Vec<u8>, what: &[u8], count: u64) -> Result<(), AllocError>
     ensures { OnOk result (to.new.items ≡ to.old.items ++ left_out_text what.now count) }
 {
-    put_text(to, b".. (")?;
-    put_text(to, what)?;
-    put_text(to, b" left out: ")?;
-    put_digits(to, count)?;
-    put_text(to, b")")
+    put_parts(
+        to,
+        &[
+            Text(b".. ("),
+            Text(what),
+            Text(b" left out: "),
+            Number(count),
+            Text(b")"),
+        ],
+    )
 }

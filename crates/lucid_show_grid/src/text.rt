@@ -24,7 +24,6 @@ fn value_at(marks: &[Mark], time: u64) -> &[u8]
     b"."
 }
 
-#[tactic(auto, using(crate::proofs::Loops::times_text_more))]
 fn put_times(to: &mut Vec<u8>, times: &[u64], columns: usize) -> Result<(), AllocError>
     ensures { OnOk result (to.new.items ≡ to.old.items ++ times_text columns times.now) }
 {
@@ -34,7 +33,6 @@ fn put_times(to: &mut Vec<u8>, times: &[u64], columns: usize) -> Result<(), Allo
     Ok(())
 }
 
-#[tactic(auto, using(crate::proofs::Loops::values_text_more))]
 fn put_values(
     to: &mut Vec<u8>,
     marks: &[Mark],
@@ -85,7 +83,6 @@ fn put_line(
     put_text(to, b"\n")
 }
 
-#[tactic(auto, using(crate::proofs::Loops::lines_text_more))]
 fn put_lines(
     to: &mut Vec<u8>,
     columns: Columns,
@@ -136,7 +133,6 @@ fn put_panel(to: &mut Vec<u8>, panel: &Panel) -> Result<(), AllocError>
     put_laid(to, columns_of(panel), panel)
 }
 
-#[tactic(auto, using(crate::proofs::Loops::panels_text_more))]
 fn put_panels(to: &mut Vec<u8>, panels: &[Panel]) -> Result<(), AllocError>
     ensures { OnOk result (to.new.items ≡ to.old.items ++ panels_text (map plain_panel panels.now)) }
 {
