@@ -25,7 +25,6 @@ pub(crate) fn put_operand(
 }
 
 // Appends arguments, each behind a comma. A sentence stands in parentheses.
-#[tactic(auto, using(crate::proofs::Loops::arguments_more))]
 fn put_more(to: &mut Vec<u8>, parts: &[Part]) -> Result<(), AllocError>
     ensures { OnOk result (to.new.items ≡ to.old.items ++ parted_more (arguments (plain_parts parts.now))) }
 {

@@ -10,7 +10,6 @@ use lucid_cert_rules::{Entry, outline};
 use std::alloc::AllocError;
 
 // Appends the lines of entries.
-#[tactic(auto, using(crate::proofs::Loops::entries_more))]
 fn put_entries(source: &Source<'_>, to: &mut Vec<u8>, entries: &[Entry]) -> Result<(), AllocError>
     ensures { OnOk result (to.new.items ≡ to.old.items ++ entries_text (view_of source.now) entries.now) }
 {

@@ -147,7 +147,6 @@ impl<'a> Source<'a> {
     }
 
     // The judgments of these numbers, as far as they are there.
-    #[tactic(auto, using(crate::proofs::Loops::judgments_more))]
     fn rows(&self, numbers: &[u64]) -> Result<Vec<&'a JudgmentRow>, AllocError>
         ensures { IfOk result (λ rows. lent_judgments rows.items ≡ judgments_at (view_of self.now).judgments numbers.now) }
     {
