@@ -27,7 +27,7 @@ pub enum Task {
 }
 
 /// The form of the source.
-#[derive(Clone, Copy, Debug, PartialEq, Eq)]
+#[derive(Clone, Copy)]
 pub enum Form {
     /// The text in a file.
     Text,
