@@ -1,6 +1,7 @@
 -- The equations of the book, as equalities of streams.
 use Rattle.lucid_fixed_point.proofs.Common.{◌≡◌, ℕ, zero, suc, ◌≤◌, ◌<◌, ◌↔◌, refl, subst, arith, PlainValue, last, Stream, Streams, operator, Tested, choose, first, fby, whenever, upon, sby, Search, Advance}
-use Rattle.lucid_fixed_point.specs.Equalities.{IsSame, one, two, three, later, next_of, cut, whenever_unfolded, upon_unfolded, EquationsOfTheBook}
+use Rattle.lucid_fixed_point.specs.Streams.{IsSame, one, two, three, later, cut}
+use Rattle.lucid_fixed_point.specs.Equalities.{next_of, whenever_unfolded, upon_unfolded, EquationsOfTheBook}
 use Rattle.lucid_fixed_point.proofs.Operators.{operates-as-the-book}
 use Rattle.lucid_fixed_point.proofs.Shifts.{tested-grows, AtZero, at-zero-grows, search-opens, search-closes, search-moved, advance-moved}
 

@@ -1,7 +1,7 @@
 -- The operator of each form, said of the streams of its parts.
 use Rattle.lucid_fixed_point.proofs.Common.{◌≡◌, ℕ, suc, ◌<◌, ◌≤◌, ◌↔◌, true, false, nat_lt, refl, arith, nat_tests, PlainValue, truth, fault, Plan, gives, gives_part, look, by_test, by_place, only_truth, last, Streams, operator, Tested, AsTruth, Placed, const, fby, choose, first, whenever, sby}
 use Rattle.lucid_tree.specs.Tree.{next, asa, initial, succ, both, either, attime, atspace}
-use Rattle.lucid_fixed_point.specs.Laws.{OperatesAsTheBook}
+use Rattle.lucid_fixed_point.specs.Operators.{OperatesAsTheBook}
 use Rattle.lucid_fixed_point.proofs.Looks.{row-ran, value-ran, part-ran, one-part, one-value, first-look}
 use Rattle.lucid_fixed_point.proofs.Tests.{test-ran, place-ran, truth-ran, tested-ran, placed-ran, value-after, part-after, truth-after}
 use Rattle.lucid_fixed_point.proofs.Searches.{search-is}

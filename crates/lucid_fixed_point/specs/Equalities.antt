@@ -1,37 +1,13 @@
 -- Equalities of streams: the equations of the book, each of any streams X and P, at all times and spaces.
-use Rattle.std.specs.Prelude.{ℕ, zero, suc, ◌<◌, ◌≤◌, ◌↔◌}
+use Rattle.std.specs.Prelude.{ℕ, suc, ◌<◌, ◌≤◌, ◌↔◌}
 use Rattle.lucid_value.specs.Plain.{PlainValue}
 use Rattle.lucid_tree.specs.Tree.{choose, first, next, fby, whenever, asa, upon, initial, succ, sby}
 use Rattle.lucid_tree.specs.Rows.{last}
-use Rattle.lucid_fixed_point.specs.Streams.{Stream, Streams, no_stream, operator}
+use Rattle.lucid_fixed_point.specs.Streams.{Stream, operator, IsSame, one, two, three, later, cut}
 
--- the same values at the same points
-abbrev pub IsSame : Stream → Stream → Type 0
-IsSame a b = (t s : ℕ) (v : PlainValue) → a t s v ↔ b t s v
-
--- one, two and three parts
-abbrev pub one : Stream → Streams
-one x zero = x
-one x (suc i) = no_stream
-
-abbrev pub two : (x y : Stream) → Streams
-two x y zero = x
-two x y (suc i) = one y i
-
-abbrev pub three : (c x y : Stream) → Streams
-three c x y zero = c
-three c x y (suc i) = two x y i
-
--- The stream from time 1 on. `next` is that below the last time, and an error from there on.
-abbrev pub later : Stream → Stream
-later x t s v = x (suc t) s v
-
+-- `next` is the stream from time 1 on below the last time, and an error from there on.
 abbrev pub next_of : Stream → Stream
 next_of x = operator next (one x)
-
--- the stream at the times below n
-abbrev pub cut : (n : ℕ) → Stream → Stream
-cut n x t s v = (t < n) × x t s v
 
 -- if first P then X fby (Y whenever Q) else (Y whenever Q) fi, where Y and Q are X and P from time 1 on
 abbrev pub whenever_unfolded : (x p y q : Stream) → Stream

@@ -4,6 +4,7 @@ pub mod RuleLaws
 pub mod Streams
 pub mod Denotation
 pub mod Order
+pub mod Operators
 pub mod Laws
 pub mod Nothing
 pub mod Tests

@@ -1,6 +1,6 @@
 -- Streams, maps of streams, and what names mean. A stream says which values stand at which points: where none stands it is undefined, which others
 -- write as a bottom element. What a program denotes has at most one value at a point, which laws say; not each stream has.
-use Rattle.std.specs.Prelude.{◌≡◌, ℕ, zero, suc, Bool, true, false, List, Option, Some, None}
+use Rattle.std.specs.Prelude.{◌≡◌, ℕ, zero, suc, ◌<◌, Bool, true, false, List, Option, Some, None, ◌↔◌}
 use Rattle.lucid_value.specs.Plain.{PlainValue}
 use Rattle.lucid_tree.specs.Tree.{Head}
 use Rattle.lucid_tree.specs.Rows.{plan, run, Reader}
@@ -41,6 +41,31 @@ pub record Operated (f : Head) (a : Streams) (t s : ℕ) (v : PlainValue) : Type
 
 abbrev pub operator : Head → Map
 operator f a t s v = Operated f a t s v
+
+-- the same values at the same points
+abbrev pub IsSame : Stream → Stream → Type 0
+IsSame a b = (t s : ℕ) (v : PlainValue) → a t s v ↔ b t s v
+
+-- one, two and three parts
+abbrev pub one : Stream → Streams
+one x zero = x
+one x (suc i) = no_stream
+
+abbrev pub two : (x y : Stream) → Streams
+two x y zero = x
+two x y (suc i) = one y i
+
+abbrev pub three : (c x y : Stream) → Streams
+three c x y zero = c
+three c x y (suc i) = two x y i
+
+-- the stream from time 1 on
+abbrev pub later : Stream → Stream
+later x t s v = x (suc t) s v
+
+-- the stream at the times below n
+abbrev pub cut : (n : ℕ) → Stream → Stream
+cut n x t s v = (t < n) × x t s v
 
 abbrev pub chosen : {A : Type 1} → Bool → (yes no : A) → A
 chosen true a b = a

@@ -14,7 +14,8 @@ ghost use Rattle.lucid_fixed_point.specs.Families.{Family, Solves, by_family, Li
 ghost use Rattle.lucid_fixed_point.specs.Contexts.{Context, fill, DenoteTheSame};
 ghost use Rattle.lucid_fixed_point.specs.Unfolding.{NamesUnfold, CallsUnfold, FirstOfFbyInPrograms};
 ghost use Rattle.lucid_fixed_point.specs.Programs.{TwoNamesTakeTurns, TheFunctionTakesTurns, TheNestedIsTrue};
-ghost use Rattle.lucid_fixed_point.specs.Laws.{DenotationIsDerivation, DenotationIsMeaning, SolvesThere, LiesThere, SolutionHasTheBlock, OperatesAsTheBook, DenotationsGrowWithInputs, DenotationsNeedSomeInputs};
+ghost use Rattle.lucid_fixed_point.specs.Operators.{OperatesAsTheBook};
+ghost use Rattle.lucid_fixed_point.specs.Laws.{DenotationIsDerivation, DenotationIsMeaning, SolvesThere, LiesThere, SolutionHasTheBlock, DenotationsGrowWithInputs, DenotationsNeedSomeInputs};
 
 /// Streams by their numbers, and others that have all that these have.
 pub trait Ordered {
