@@ -286,22 +286,14 @@ pub fn decide(program: &Program, tasks: &Tasks, slot: usize) -> Decision
         Node::Const { constant } => Decision::Constant { constant },
         Node::Input { stream } => ready.read(stream),
         Node::Apply { op, args } => ready.apply(program, tasks, op, args),
-        Node::If { test, yes, no } => ready.stream(tasks, Form::If, &[test, yes, no]),
-        Node::And { left, right } => ready.stream(tasks, Form::And, &[left, right]),
-        Node::Or { left, right } => ready.stream(tasks, Form::Or, &[left, right]),
-        Node::Whenever { left, right } => ready.stream(tasks, Form::Whenever, &[left, right]),
-        Node::Asa { left, right } => ready.stream(tasks, Form::Asa, &[left, right]),
-        Node::Upon { left, right } => ready.stream(tasks, Form::Upon, &[left, right]),
-        Node::Attime { left, right } => ready.stream(tasks, Form::Attime, &[left, right]),
-        Node::Atspace { left, right } => ready.stream(tasks, Form::Atspace, &[left, right]),
         Node::Refer { .. } | Node::Call { .. } => ready.refer(tasks),
-        // What only moves the point is passed before a row is made: of these, `next` and `succ` come here, at the last time and space.
-        Node::First { of } => ready.stream(tasks, Form::First, &[of]),
-        Node::Next { of } => ready.stream(tasks, Form::Next, &[of]),
-        Node::Fby { left, right } => ready.stream(tasks, Form::Fby, &[left, right]),
-        Node::Initial { of } => ready.stream(tasks, Form::Initial, &[of]),
-        Node::Succ { of } => ready.stream(tasks, Form::Succ, &[of]),
-        Node::Sby { left, right } => ready.stream(tasks, Form::Sby, &[left, right]),
+        // It goes as the forms below do, without the second match, as it is the form that comes most.
+        Node::If { test, yes, no } => ready.stream(tasks, Form::If, &[test, yes, no]),
         Node::Freeze { .. } => unreachable!(),
+        // What only moves the point is passed before a row is made: of these, `next` and `succ` come here, at the last time and space.
+        _ => match node.read() {
+            Some((form, parts)) => ready.stream(tasks, form, parts.as_slice()),
+            None => unreachable!(),
+        },
     }
 }
