@@ -4,6 +4,9 @@ use Rattle.std.specs.Prelude.{◌≡◌, ℕ, zero, suc, ◌<◌, ◌≤◌, Boo
 use Rattle.lucid_value.specs.Plain.{PlainValue, int, truth, eod, fault}
 use Rattle.lucid_tree.specs.declared.form.Form.{Form}
 use Rattle.lucid_tree.specs.declared.form.Form.TheVariants as forms
+use Rattle.lucid_tree.specs.declared.form.Decider.{Decider}
+use Rattle.lucid_tree.specs.Forms.{form_row}
+use Rattle.lucid_tree.specs.declared.form.Decider.TheVariants.{Point, Test, Target, Search}
 use Rattle.lucid_tree.specs.Tree.{stream}
 use Rattle.lucid_tree.specs.Rows.{Plan, gives, nothing, last, look, gives_part, only_truth}
 use Rattle.lucid_tree.specs.Rests.{rest_at}
@@ -83,17 +86,20 @@ counted p =
     then (if nat_lt p.reached p.time then start.Look (part_at 1 p.reached p.space) else start.Step (step.Part (part_at 0 p.count p.space)))
     else start.Step step.Nothing
 
--- What a form does first where its search stands: it looks at the part that decides, or takes a step at once.
+-- What a search does first: `upon` counts, and the others look for a true value.
+abbrev pub search_start : Form → Place → Start
+search_start forms.Upon p = counted p
+search_start _ p = searched p
+
+-- What a form does first where its search stands: by what decides, it looks at a part, or takes a step at once.
+abbrev pub start_by : Decider → Form → Place → Start
+start_by Point f p = start.Step (moved_step f p)
+start_by Test f p = start.Look (part_at 0 p.time p.space)
+start_by Target f p = start.Look (part_at 1 p.time p.space)
+start_by Search f p = search_start f p
+
 abbrev pub start_of : Form → Place → Start
-start_of forms.If p = start.Look (part_at 0 p.time p.space)
-start_of forms.And p = start.Look (part_at 0 p.time p.space)
-start_of forms.Or p = start.Look (part_at 0 p.time p.space)
-start_of forms.Whenever p = searched p
-start_of forms.Asa p = searched p
-start_of forms.Upon p = counted p
-start_of forms.Attime p = start.Look (part_at 1 p.time p.space)
-start_of forms.Atspace p = start.Look (part_at 1 p.time p.space)
-start_of f p = start.Step (moved_step f p)
+start_of f p = start_by (form_row f).decider f p
 
 -- `whenever` at a true value: as many are below it as its time says, or it goes on
 abbrev pub found : Place → Step

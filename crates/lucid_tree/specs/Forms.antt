@@ -8,40 +8,45 @@ pub use Rattle.lucid_tree.specs.declared.form.Form.{Form}
 use Rattle.lucid_tree.specs.declared.form.Form.TheVariants as form
 pub use Rattle.lucid_tree.specs.declared.form.Delay.{Delay}
 use Rattle.lucid_tree.specs.declared.form.Delay.TheVariants.{Same, Zero, Less, More, Unjudged}
+pub use Rattle.lucid_tree.specs.declared.form.Decider.{Decider}
+use Rattle.lucid_tree.specs.declared.form.Decider.TheVariants.{Point, Test, Target, Search}
 use Rattle.lucid_tree.specs.declared.form.FormRow.{FormRow}
 
 -- A row: the bytes of the form's word, how tightly it binds (from 1, the loosest, to 12), the number of its parts, what it does to the delay
--- of references, and whether it looks at other spaces.
+-- of references, what decides which part gives its value, and whether it looks at other spaces.
 pub record Row : Type 0 where
   pub spelling : List ℕ
   pub level : ℕ
   pub parts : ℕ
   pub delay : Delay
+  pub decider : Decider
   pub over_space : Bool
 
 -- The row of a form that doesn't look at other spaces, and of one that does: these aren't judged.
-abbrev pub over_time : (spelling : List ℕ) → (level parts : ℕ) → Delay → Row
-over_time spelling level parts delay = record { spelling = spelling; level = level; parts = parts; delay = delay; over_space = false }
+abbrev pub over_time : (spelling : List ℕ) → (level parts : ℕ) → Delay → Decider → Row
+over_time spelling level parts delay decider =
+    record { spelling = spelling; level = level; parts = parts; delay = delay; decider = decider; over_space = false }
 
-abbrev pub over_space : (spelling : List ℕ) → (level parts : ℕ) → Row
-over_space spelling level parts = record { spelling = spelling; level = level; parts = parts; delay = Unjudged; over_space = true }
+abbrev pub over_space : (spelling : List ℕ) → (level parts : ℕ) → Decider → Row
+over_space spelling level parts decider =
+    record { spelling = spelling; level = level; parts = parts; delay = Unjudged; decider = decider; over_space = true }
 
 -- The row of each form. `if` binds as what is called does: its parts stand between words of their own.
 abbrev pub form_row : Form → Row
-form_row form.If = over_time (codes "if") 12 3 Same
-form_row form.And = over_time (codes "and") 4 2 Same
-form_row form.Or = over_time (codes "or") 3 2 Same
-form_row form.First = over_time (codes "first") 11 1 Zero
-form_row form.Next = over_time (codes "next") 11 1 Less
-form_row form.Fby = over_time (codes "fby") 1 2 More
-form_row form.Whenever = over_time (codes "whenever") 2 2 Unjudged
-form_row form.Asa = over_time (codes "asa") 2 2 Unjudged
-form_row form.Upon = over_time (codes "upon") 2 2 Unjudged
-form_row form.Attime = over_time (codes "attime") 2 2 Unjudged
-form_row form.Initial = over_space (codes "initial") 11 1
-form_row form.Succ = over_space (codes "succ") 11 1
-form_row form.Sby = over_space (codes "sby") 1 2
-form_row form.Atspace = over_space (codes "atspace") 2 2
+form_row form.If = over_time (codes "if") 12 3 Same Test
+form_row form.And = over_time (codes "and") 4 2 Same Test
+form_row form.Or = over_time (codes "or") 3 2 Same Test
+form_row form.First = over_time (codes "first") 11 1 Zero Point
+form_row form.Next = over_time (codes "next") 11 1 Less Point
+form_row form.Fby = over_time (codes "fby") 1 2 More Point
+form_row form.Whenever = over_time (codes "whenever") 2 2 Unjudged Search
+form_row form.Asa = over_time (codes "asa") 2 2 Unjudged Search
+form_row form.Upon = over_time (codes "upon") 2 2 Unjudged Search
+form_row form.Attime = over_time (codes "attime") 2 2 Unjudged Target
+form_row form.Initial = over_space (codes "initial") 11 1 Point
+form_row form.Succ = over_space (codes "succ") 11 1 Point
+form_row form.Sby = over_space (codes "sby") 1 2 Point
+form_row form.Atspace = over_space (codes "atspace") 2 2 Target
 
 -- the number of a form's parts
 abbrev pub part_count : Form → ℕ
@@ -67,4 +72,4 @@ found _ = refl
 
 -- a row of the program as such a row
 abbrev pub plain_row : FormRow → Row
-plain_row r = record { spelling = r.spelling.now; level = r.level; parts = r.parts; delay = r.delay; over_space = r.over_space }
+plain_row r = record { spelling = r.spelling.now; level = r.level; parts = r.parts; delay = r.delay; decider = r.decider; over_space = r.over_space }

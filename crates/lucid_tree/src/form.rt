@@ -52,6 +52,19 @@ pub enum Delay {
     Unjudged,
 }
 
+/// What decides which part gives the value of a form, and where.
+#[derive(Clone, Copy, Debug, PartialEq, Eq, Drop)]
+pub enum Decider {
+    /// The point alone: it looks at nothing before.
+    Point,
+    /// A truth, which its first part has at the point.
+    Test,
+    /// A time or a space, which its second part has at the point.
+    Target,
+    /// Truths, which its second part has at one time after another.
+    Search,
+}
+
 /// What the row of a form says.
 #[derive(Clone, Copy, Debug, PartialEq, Eq, Drop)]
 pub struct FormRow {
@@ -63,32 +76,42 @@ pub struct FormRow {
     pub parts: u8,
     /// What it does to the delay of references.
     pub delay: Delay,
+    /// What decides which part gives its value.
+    pub decider: Decider,
     /// Whether it looks at other spaces, or at all spaces alike.
     pub over_space: bool,
 }
 
 // The row of a form that doesn't look at other spaces.
-fn over_time(spelling: &'static [u8], level: u8, parts: u8, delay: Delay) -> FormRow
-    ensures { plain_row result ≡ over_time spelling.now level parts delay }
+fn over_time(
+    spelling: &'static [u8],
+    level: u8,
+    parts: u8,
+    delay: Delay,
+    decider: Decider,
+) -> FormRow
+    ensures { plain_row result ≡ over_time spelling.now level parts delay decider }
 {
     FormRow {
         spelling,
         level,
         parts,
         delay,
+        decider,
         over_space: false,
     }
 }
 
 // The row of one that does.
-fn over_space(spelling: &'static [u8], level: u8, parts: u8) -> FormRow
-    ensures { plain_row result ≡ over_space spelling.now level parts }
+fn over_space(spelling: &'static [u8], level: u8, parts: u8, decider: Decider) -> FormRow
+    ensures { plain_row result ≡ over_space spelling.now level parts decider }
 {
     FormRow {
         spelling,
         level,
         parts,
         delay: Delay::Unjudged,
+        decider,
         over_space: true,
     }
 }
@@ -117,20 +140,20 @@ impl Form {
         ensures { plain_row result ≡ form_row self }
     {
         match self {
-            Form::If => over_time(b"if", 12, 3, Delay::Same),
-            Form::And => over_time(b"and", 4, 2, Delay::Same),
-            Form::Or => over_time(b"or", 3, 2, Delay::Same),
-            Form::First => over_time(b"first", 11, 1, Delay::Zero),
-            Form::Next => over_time(b"next", 11, 1, Delay::Less),
-            Form::Fby => over_time(b"fby", 1, 2, Delay::More),
-            Form::Whenever => over_time(b"whenever", 2, 2, Delay::Unjudged),
-            Form::Asa => over_time(b"asa", 2, 2, Delay::Unjudged),
-            Form::Upon => over_time(b"upon", 2, 2, Delay::Unjudged),
-            Form::Attime => over_time(b"attime", 2, 2, Delay::Unjudged),
-            Form::Initial => over_space(b"initial", 11, 1),
-            Form::Succ => over_space(b"succ", 11, 1),
-            Form::Sby => over_space(b"sby", 1, 2),
-            Form::Atspace => over_space(b"atspace", 2, 2),
+            Form::If => over_time(b"if", 12, 3, Delay::Same, Decider::Test),
+            Form::And => over_time(b"and", 4, 2, Delay::Same, Decider::Test),
+            Form::Or => over_time(b"or", 3, 2, Delay::Same, Decider::Test),
+            Form::First => over_time(b"first", 11, 1, Delay::Zero, Decider::Point),
+            Form::Next => over_time(b"next", 11, 1, Delay::Less, Decider::Point),
+            Form::Fby => over_time(b"fby", 1, 2, Delay::More, Decider::Point),
+            Form::Whenever => over_time(b"whenever", 2, 2, Delay::Unjudged, Decider::Search),
+            Form::Asa => over_time(b"asa", 2, 2, Delay::Unjudged, Decider::Search),
+            Form::Upon => over_time(b"upon", 2, 2, Delay::Unjudged, Decider::Search),
+            Form::Attime => over_time(b"attime", 2, 2, Delay::Unjudged, Decider::Target),
+            Form::Initial => over_space(b"initial", 11, 1, Decider::Point),
+            Form::Succ => over_space(b"succ", 11, 1, Decider::Point),
+            Form::Sby => over_space(b"sby", 1, 2, Decider::Point),
+            Form::Atspace => over_space(b"atspace", 2, 2, Decider::Target),
         }
     }
 
@@ -153,6 +176,20 @@ impl Form {
         ensures { result ≡ (form_row self).delay }
     {
         self.row().delay
+    }
+
+    /// What decides which part gives its value.
+    pub fn decider(self) -> Decider
+        ensures { result ≡ (form_row self).decider }
+    {
+        self.row().decider
+    }
+
+    /// Whether it looks at other spaces, or at all spaces alike.
+    pub fn over_space(self) -> bool
+        ensures { result ≡ (form_row self).over_space }
+    {
+        self.row().over_space
     }
 
     /// The form of this word, if there is one.

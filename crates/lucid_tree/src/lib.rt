@@ -3,7 +3,7 @@
 
 pub use crate::definitions::Definitions;
 pub use crate::depth::MAX_TREE_DEPTH;
-pub use crate::form::{Delay, Form, FormRow};
+pub use crate::form::{Decider, Delay, Form, FormRow};
 pub use crate::lists::{Names, Places32};
 pub use crate::parts::Parts;
 pub use crate::shape::{Head, Shape};
