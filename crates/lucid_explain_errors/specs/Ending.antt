@@ -1,10 +1,12 @@
 -- What is said of the judgment with which a way ends: the place of its piece in the source, and why it has its value.
-use Rattle.std.specs.Prelude.{ℕ, ◌+◌, ◌-◌, List, [], ◌++◌, length, map, drop, min, codes, decimal, Option, Some, None, slice_get}
+use Rattle.std.specs.Prelude.{ℕ, ◌+◌, ◌-◌, Bool, true, false, List, [], ◌++◌, length, map, drop, min, codes, decimal, Option, Some, None, slice_get}
 use Rattle.lucid_value.specs.Plain.{PlainValue}
 use Rattle.lucid_ops.specs.Rows.{operator_row}
 use Rattle.lucid_tree.specs.declared.form.Form.{Form}
 use Rattle.lucid_tree.specs.declared.form.Form.TheVariants as forms
+use Rattle.lucid_tree.specs.declared.form.Decider.{Decider}
 use Rattle.lucid_tree.specs.Forms.{form_row}
+use Rattle.lucid_tree.specs.declared.form.Decider.TheVariants.{Point, Test, Target, Search}
 use Rattle.lucid_tree.specs.Tree.{Head, const, apply, stream, PlainTree, form, name, call, block}
 use Rattle.lucid_explain_run.specs.Parts.{own_place}
 use Rattle.lucid_cert_rules.specs.Certificates.{PlainJudgment}
@@ -19,17 +21,24 @@ use Rattle.lucid_explain_errors.specs.Ways.{value_at}
 use Rattle.lucid_explain_errors.specs.Texts.{point_text, gets_text}
 use Rattle.lucid_explain_errors.specs.Steps.{Told}
 
--- of a form over streams, by what it looked at last: what it wants of that
+-- of a form over streams, by what decides and whether it looks at other spaces: what it wants of what it looked at last
+abbrev pub wanted_text : Decider → (over_space : Bool) → List ℕ
+wanted_text Point o = codes "there is no later time or space."
+wanted_text Test o = codes "it wants `true` or `false`."
+wanted_text Target false = codes "it wants a time, from 0 to 9223372036854775807."
+wanted_text Target true = codes "it wants a space, from 0 to 9223372036854775807."
+wanted_text Search o = codes "it wants `true` or `false` on its right side."
+
+-- what may be meant instead
+abbrev pub hint : Form → List ℕ
+hint forms.And = codes " On both sides of it stands a test, as in `n > 1 and n < 5`."
+hint forms.Or = codes " On both sides of it stands a test, as in `n eq 1 or n eq 2`."
+hint forms.Asa = codes " The value of n at time 5 is `n attime 5`."
+hint forms.Attime = codes " The value of n one time before is `(0 fby n)`, which is 0 at first."
+hint _ = []
+
 abbrev pub form_text : Form → List ℕ
-form_text forms.If = codes "it wants `true` or `false`.\n"
-form_text forms.And = codes "it wants `true` or `false`. On both sides of it stands a test, as in `n > 1 and n < 5`.\n"
-form_text forms.Or = codes "it wants `true` or `false`. On both sides of it stands a test, as in `n eq 1 or n eq 2`.\n"
-form_text forms.Whenever = codes "it wants `true` or `false` on its right side.\n"
-form_text forms.Asa = codes "it wants `true` or `false` on its right side. The value of n at time 5 is `n attime 5`.\n"
-form_text forms.Upon = codes "it wants `true` or `false` on its right side.\n"
-form_text forms.Attime = codes "it wants a time, from 0 to 9223372036854775807. The value of n one time before is `(0 fby n)`, which is 0 at first.\n"
-form_text forms.Atspace = codes "it wants a space, from 0 to 9223372036854775807.\n"
-form_text _ = codes "there is no later time or space.\n"
+form_text f = wanted_text (form_row f).decider (form_row f).over_space ++ (hint f ++ codes "\n")
 
 -- the last of the values, if there are any
 abbrev pub last_of : List PlainValue → List PlainValue

@@ -5,7 +5,7 @@ ghost use Rattle.lucid_tree.specs.Tree.{apply, stream};
 ghost use Rattle.lucid_tree.specs.Shape.{head_of};
 ghost use Rattle.lucid_cert_rules.specs.Certificates.{plain_judgment};
 ghost use Rattle.lucid_explain_errors.specs.Steps.{plain_sight, FitsTree};
-ghost use Rattle.lucid_explain_errors.specs.Ending.{form_text, last_of, got_text, head_error, head_end, head_cause, line_text, piece_cause, seen_text, element_text, own_place_text, found_text, ending_text, ending_at};
+ghost use Rattle.lucid_explain_errors.specs.Ending.{wanted_text, hint, last_of, got_text, head_error, head_end, head_cause, line_text, piece_cause, seen_text, element_text, own_place_text, found_text, ending_text, ending_at};
 ghost use Rattle.lucid_explain_errors.specs.Inputs.{line_of};
 
 use crate::cause::{cause_by, put_cause};
@@ -18,31 +18,33 @@ use lucid_cert_rules::JudgmentRow;
 use lucid_explain_places::{put_number, put_place};
 use lucid_explain_run::{own_place, piece_of};
 use lucid_ops::Op;
-use lucid_tree::{Form, Head, Shape, Tree};
+use lucid_tree::{Decider, Form, Head, Shape, Tree};
 use lucid_value::Value;
 use std::alloc::{AllocError, Global};
 
 // What a form over streams wants of what it looked at last.
-fn form_text(form: Form) -> &'static [u8]
-    ensures { result.now ≡ form_text form }
+fn wanted_text(decider: Decider, over_space: bool) -> &'static [u8]
+    ensures { result.now ≡ wanted_text decider over_space }
+{
+    match decider {
+        Decider::Point => b"there is no later time or space.",
+        Decider::Test => b"it wants `true` or `false`.",
+        Decider::Target if over_space => b"it wants a space, from 0 to 9223372036854775807.",
+        Decider::Target => b"it wants a time, from 0 to 9223372036854775807.",
+        Decider::Search => b"it wants `true` or `false` on its right side.",
+    }
+}
+
+// What may be meant instead.
+fn hint(form: Form) -> &'static [u8]
+    ensures { result.now ≡ hint form }
 {
     match form {
-        Form::If => b"it wants `true` or `false`.\n",
-        Form::And => {
-            b"it wants `true` or `false`. On both sides of it stands a test, as in `n > 1 and n < 5`.\n"
-        }
-        Form::Or => {
-            b"it wants `true` or `false`. On both sides of it stands a test, as in `n eq 1 or n eq 2`.\n"
-        }
-        Form::Whenever | Form::Upon => b"it wants `true` or `false` on its right side.\n",
-        Form::Asa => {
-            b"it wants `true` or `false` on its right side. The value of n at time 5 is `n attime 5`.\n"
-        }
-        Form::Attime => {
-            b"it wants a time, from 0 to 9223372036854775807. The value of n one time before is `(0 fby n)`, which is 0 at first.\n"
-        }
-        Form::Atspace => b"it wants a space, from 0 to 9223372036854775807.\n",
-        _ => b"there is no later time or space.\n",
+        Form::And => b" On both sides of it stands a test, as in `n > 1 and n < 5`.",
+        Form::Or => b" On both sides of it stands a test, as in `n eq 1 or n eq 2`.",
+        Form::Asa => b" The value of n at time 5 is `n attime 5`.",
+        Form::Attime => { b" The value of n one time before is `(0 fby n)`, which is 0 at first." }
+        _ => b"",
     }
 }
 
@@ -104,7 +106,9 @@ fn put_form(
     ensures { OnOk result (text.new.items ≡ text.old.items ++ head_error at.time at.space (map plain values.now) (stream form)) }
 {
     put_got(alloc, text, at, form.spelling(), last_of(values))?;
-    text.extend_from_slice(form_text(form))
+    text.extend_from_slice(wanted_text(form.decider(), form.over_space()))?;
+    text.extend_from_slice(hint(form))?;
+    text.extend_from_slice(b"\n")
 }
 
 // Appends why a form has the value `error`.
