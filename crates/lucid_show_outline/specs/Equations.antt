@@ -6,11 +6,15 @@ use Rattle.lucid_ops.specs.declared.op.Form.{Form}
 use Rattle.lucid_ops.specs.declared.op.Form.TheVariants.{Before, Between, Called}
 use Rattle.lucid_ops.specs.Row.{Row, left_level, right_level}
 use Rattle.lucid_ops.specs.Rows.{operator_row}
+use Rattle.lucid_tree.specs.declared.form.Form.{Form as StreamForm}
+use Rattle.lucid_tree.specs.declared.form.Decider.{Decider}
+use Rattle.lucid_tree.specs.Forms.{form_row}
+use Rattle.lucid_tree.specs.declared.form.Decider.TheVariants.{Point, Test, Target, Search}
 use Rattle.lucid_tree.specs.Tree.{PlainTree}
 use Rattle.lucid_print.specs.Canonical.{Part, part, placed, parted, source}
-use Rattle.lucid_equations.specs.Rows.{row_at}
+use Rattle.lucid_equations.specs.Rows.{read, row_at}
 use Rattle.lucid_equations.specs.declared.rows.Node.{Node}
-use Rattle.lucid_equations.specs.declared.rows.Node.TheVariants.{Const, Input, Apply, If, And, Or, Whenever, Asa, Upon, Attime, Atspace, Freeze, Refer, Call}
+use Rattle.lucid_equations.specs.declared.rows.Node.TheVariants.{Const, Apply, Freeze}
 use Rattle.lucid_cert_rules.specs.Certificates.{PlainJudgment}
 use Rattle.lucid_show_outline.specs.declared.does.Does.{Does}
 use Rattle.lucid_show_outline.specs.declared.does.Does.TheVariants.{Asks, Constant, Applies, Passes, Freezes, Chooses, Searches}
@@ -37,24 +41,29 @@ sentence s = part 0 s
 abbrev pub unknown : Part
 unknown = tight (codes "..")
 
--- What a node does with the judgments that it uses: it asks; it is a constant; an operator is applied to them; the one is passed on in the context that
--- is entered; the first decides; all but what is found are tests of the part of this number; or, where it only moves the point, the one is passed on.
+-- What a form over streams does with the judgments that it uses, by what decides: the one is passed on, where it only moves the point; the first
+-- decides; or all but what is found are tests of its second part, by that part's number.
+abbrev pub searches : Option ℕ → Does
+searches (Some part) = Searches part
+searches None = Asks
+
+abbrev pub does_by : Decider → (parts : List ℕ) → Does
+does_by Point ps = Passes
+does_by Test ps = Chooses
+does_by Target ps = Chooses
+does_by Search ps = searches (slice_get ps 1)
+
+abbrev pub does_read : Option (StreamForm × List ℕ) → Does
+does_read (Some p) = does_by (form_row p.0).decider p.1
+does_read None = Asks
+
+-- What a node does with them: it is a constant; an operator is applied to them; the one is passed on in the context that is entered; it does what its
+-- form does; or it asks.
 unfoldable pub does : Node → Does
 does (Const k) = Constant
-does (Input k) = Asks
-does (Refer n l) = Asks
-does (Call n p l) = Asks
 does (Apply op args) = Applies op
 does (Freeze a) = Freezes
-does (If a b c) = Chooses
-does (And a b) = Chooses
-does (Or a b) = Chooses
-does (Attime a b) = Chooses
-does (Atspace a b) = Chooses
-does (Whenever a b) = Searches b
-does (Asa a b) = Searches b
-does (Upon a b) = Searches b
-does _ = Passes
+does n = does_read (read n)
 
 -- the uses whose own texts are told: of a search the last alone, and none of what asks, which is told by its name
 unfoldable pub told_uses : Does → List ℕ → List ℕ

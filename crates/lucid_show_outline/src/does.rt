@@ -3,6 +3,7 @@ ghost use Rattle.std.specs.Prelude.{◌≡◌};
 
 use lucid_equations::Node;
 use lucid_ops::Op;
+use lucid_tree::Decider;
 
 /// What a node does with the judgments that it uses.
 #[derive(Clone, Copy)]
@@ -24,7 +25,21 @@ pub(crate) enum Does {
 }
 
 impl Does {
-    ghost use Rattle.lucid_show_outline.specs.Equations.{does, told_uses};
+    ghost use Rattle.lucid_show_outline.specs.Equations.{does, does_by, told_uses};
+
+    // What a form over streams does, by what decides.
+    fn by(decider: Decider, parts: &[u32]) -> Does
+        ensures { result ≡ does_by decider parts.now }
+    {
+        match decider {
+            Decider::Point => Does::Passes,
+            Decider::Test | Decider::Target => Does::Chooses,
+            Decider::Search => match parts.get(1) {
+                Some(part) => Does::Searches(*part),
+                None => Does::Asks,
+            },
+        }
+    }
 
     /// What a node does.
     #[tactic(auto, unfolding(crate::specs::Equations::does))]
@@ -32,20 +47,13 @@ impl Does {
         ensures { result ≡ does node }
     {
         match node {
-            Node::Input { .. } | Node::Refer { .. } | Node::Call { .. } => Does::Asks,
             Node::Const { .. } => Does::Constant,
             Node::Apply { op, .. } => Does::Applies(op),
             Node::Freeze { .. } => Does::Freezes,
-            Node::If { .. }
-            | Node::And { .. }
-            | Node::Or { .. }
-            | Node::Attime { .. }
-            | Node::Atspace { .. } => Does::Chooses,
-            Node::Whenever { right, .. } | Node::Asa { right, .. } | Node::Upon { right, .. } => {
-                Does::Searches(right)
-            }
-            // The others only move the point.
-            _ => Does::Passes,
+            _ => match node.read() {
+                Some((form, parts)) => Does::by(form.decider(), parts.as_slice()),
+                None => Does::Asks,
+            },
         }
     }
 
