@@ -13,10 +13,10 @@ use Rattle.lucid_equations.specs.declared.step.Step.TheVariants as step
 use Rattle.lucid_equations.specs.declared.step.Start.{Start}
 use Rattle.lucid_equations.specs.declared.step.Start.TheVariants as start
 use Rattle.lucid_equations.specs.Steps.{answer_of, part_at, by_truth, start_of, found, step_after, least_of}
-use Rattle.lucid_equations.proofs.Told.{by_its_truth, by_its_place}
-use Rattle.lucid_equations.proofs.Looks.{of_both, of_each}
+use Rattle.lucid_equations.proofs.Told.{by_its_truth}
+use Rattle.lucid_equations.proofs.Looks.{of_both, of_each, IsTargeted, GivesFirst, gives_first}
 use Rattle.lucid_equations.specs.Moving.{onward}
-use Rattle.lucid_demand_steps.specs.Parts.{at_place}
+use Rattle.lucid_demand_steps.specs.Parts.{look_of, look_of_row, look_of_step}
 use Rattle.lucid_demand_steps.specs.Taken.{place_of, IsLook, SearchesOn, Fits}
 
 -- what is looked at first is the look of the row's part, and what is done by each value of it fits
@@ -117,21 +117,21 @@ module _ (r : PlainRow) where
     after = λ v has. by_its_truth (Fits forms.Or r) v (step.Give (Truth true)) (step.Judge (part_at 1 r.task.time r.task.space)) (λ e. tt) (λ e. refl) tt tt;
   }
 
-  attime_fits : StartFits forms.Attime r (start_of forms.Attime (place_of r))
-  attime_fits = record {
-    look = refl;
-    few = omega arith;
-    after = λ v has. by_its_place (Fits forms.Attime r) v (λ u. step.Part (part_at 0 u r.task.space))
-        (λ n e. ap (λ (o : Option PlainValue). at_place o (λ u. record { part = 0; time = u; space = r.task.space; least = 0 })) (has ∙ ap Some e)) tt tt;
-  }
+  -- Of a form that looks for a target: a step that gives part 0 is the look of part 0,
+  first_fits : (f : Form) (x : Step) → look_of_row (stream f) r 0 ≡ look_of_step x → GivesFirst x → Fits f r x
+  first_fits f (step.Part x) is first = ap (look_of_row (stream f) r) first ∙ is
+  first_fits f (step.Judge x) is first = absurd first
+  first_fits f (step.On seen) is first = absurd first
+  first_fits f x is first = tt
 
-  atspace_fits : StartFits forms.Atspace r (start_of forms.Atspace (place_of r))
-  atspace_fits = record {
-    look = refl;
-    few = omega arith;
-    after = λ v has. by_its_place (Fits forms.Atspace r) v (λ s. step.Part (part_at 0 r.task.time s))
-        (λ n e. ap (λ (o : Option PlainValue). at_place o (λ s. record { part = 0; time = r.task.time; space = s; least = 0 })) (has ∙ ap Some e)) tt tt;
-  }
+  -- so its step by the value of part 1 fits.
+  target_fits : (f : Form) → ((v : PlainValue) → look_of (stream f) r.cursor (Some v) r.task.time r.task.space 0
+      ≡ look_of_step (step_after f (place_of r) (answer_of v))) → IsTargeted f → (v : PlainValue) → value_of_part r 1 ≡ Some v
+      → Fits f r (step_after f (place_of r) (answer_of v))
+  target_fits f is target v has =
+      first_fits f (step_after f (place_of r) (answer_of v))
+      (ap (λ (o : Option PlainValue). look_of (stream f) r.cursor o r.task.time r.task.space 0) has ∙ is v)
+      (gives_first (place_of r) (answer_of v) f target)
 
   -- what only moves the point is no row's, but at the last time and space
   next_fits : IsStill forms.Next r → StartFits forms.Next r (start_of forms.Next (place_of r))
@@ -168,8 +168,7 @@ module _ (r : PlainRow) where
   start_fits forms.Whenever still = whenever_fits
   start_fits forms.Asa still = asa_fits
   start_fits forms.Upon still = upon_fits
-  start_fits forms.Attime still = attime_fits
   start_fits forms.Initial still = absurd (still 0 r.task.time 0 refl (omega arith))
   start_fits forms.Succ still = succ_fits still
   start_fits forms.Sby still = sby_fits still
-  start_fits forms.Atspace still = atspace_fits
+  start_fits f still = record { look = refl; few = omega arith; after = target_fits f (λ v. refl) refl }

@@ -1,7 +1,12 @@
 -- The parts of a task: what it looks at, what a reference goes on with, and what only moves the point.
-use Rattle.std.specs.Prelude.{◌≡◌, ℕ, zero, suc, ◌+◌, ◌*◌, ◌<◌, pos, List, [], ◌∷◌, Option, Some, None, if◌then◌else◌, nat_lt, option_map, option_and_then, length}
-use Rattle.lucid_value.specs.Plain.{PlainValue, int}
-use Rattle.lucid_tree.specs.Tree.{Head, apply, choose, both, either, whenever, asa, upon, attime, atspace}
+use Rattle.std.specs.Prelude.{◌≡◌, ℕ, zero, suc, ◌+◌, ◌*◌, ◌<◌, List, [], ◌∷◌, Option, Some, None, if◌then◌else◌, nat_lt, option_map, option_and_then, length}
+use Rattle.lucid_value.specs.Plain.{PlainValue}
+use Rattle.lucid_tree.specs.declared.form.Form.{Form}
+use Rattle.lucid_tree.specs.declared.form.Form.TheVariants as forms
+use Rattle.lucid_tree.specs.declared.form.Decider.{Decider}
+use Rattle.lucid_tree.specs.Forms.{form_row}
+use Rattle.lucid_tree.specs.declared.form.Decider.TheVariants.{Test, Target, Search}
+use Rattle.lucid_tree.specs.Tree.{Head, const, apply, stream}
 use Rattle.lucid_tree.specs.Rows.{Look}
 use Rattle.lucid_tree.specs.Levels.{goes_to}
 use Rattle.lucid_tags.specs.Contexts.{Context, frozen_frame}
@@ -9,6 +14,10 @@ use Rattle.lucid_tasks.specs.declared.Cursor.{Cursor}
 use Rattle.lucid_equations.specs.Nodes.{PlainNode, row, freeze, reference, invoke, PlainNodes, input, refer}
 use Rattle.lucid_equations.specs.Datons.{NodePosition, NodeAim, node_aim}
 use Rattle.lucid_equations.specs.Moving.{onward}
+use Rattle.lucid_equations.specs.declared.step.Place.{Place}
+use Rattle.lucid_equations.specs.declared.step.Step.{Step}
+use Rattle.lucid_equations.specs.declared.step.Step.TheVariants as step
+use Rattle.lucid_equations.specs.Steps.{answer_of, step_after}
 use Rattle.lucid_equations.specs.Rows.{node_at, part_number, equations_of}
 use Rattle.lucid_equations.specs.declared.table.Table.{Table}
 use Rattle.lucid_demand_steps.specs.Tasks.{PlainTask, PlainRow, DatonAt, value_of_part}
@@ -55,29 +64,41 @@ abbrev pub passed_contexts : Table → (steps : ℕ) → PlainTask → List Cont
 passed_contexts T zero x = []
 passed_contexts T (suc n) x = on_with (moved T x) [] (λ y. y.context ∷ passed_contexts T n y)
 
--- the look at a place that was looked at first, where it is one
-abbrev pub at_place : Option PlainValue → (ℕ → Look) → Option Look
-at_place (Some (int (pos n))) k = Some (k n)
-at_place _ k = None
+-- a look at a part at a point, which each approximation takes
+abbrev pub look_at : (part time space : ℕ) → Look
+look_at i t s = record { part = i; time = t; space = s; least = 0 }
+
+-- the look of a step that gives a part
+abbrev pub look_of_step : Step → Option Look
+look_of_step (step.Part x) = Some (look_at x.part x.time x.space)
+look_of_step _ = None
+
+-- The look at the target that part 1 has, where it has a value.
+abbrev pub look_at_target : Form → Place → Option PlainValue → Option Look
+look_at_target f p None = None
+look_at_target f p (Some v) = look_of_step (step_after f p (answer_of v))
+
+-- The look of a search that stands at a cursor.
+abbrev pub look_of_search : Form → Cursor → (time space : ℕ) → (index : ℕ) → Option Look
+look_of_search forms.Upon c t s zero = Some (look_at 0 c.count s)
+look_of_search forms.Upon c t s (suc zero) = Some (record { part = 1; time = c.time; space = s; least = t })
+look_of_search f c t s zero = Some (look_at 0 c.time s)
+look_of_search f c t s (suc zero) = Some (record { part = 1; time = c.time; space = s; least = suc c.time })
+look_of_search f c t s i = None
 
 -- The look that a part's value answers, in a form at a point whose search stands at the cursor and whose part 1 has this value, if any.
 -- It is the look of the form's plan; a part that isn't looked at has none.
-abbrev pub look_of : Head → Cursor → (place : Option PlainValue) → (time space : ℕ) → (index : ℕ) → Option Look
-look_of (apply op n) c p t s i = if nat_lt i n then Some (record { part = i; time = t; space = s; least = 0 }) else None
-look_of choose c p t s i = Some (record { part = i; time = t; space = s; least = 0 })
-look_of both c p t s i = Some (record { part = i; time = t; space = s; least = 0 })
-look_of either c p t s i = Some (record { part = i; time = t; space = s; least = 0 })
-look_of whenever c p t s zero = Some (record { part = 0; time = c.time; space = s; least = 0 })
-look_of whenever c p t s (suc zero) = Some (record { part = 1; time = c.time; space = s; least = suc c.time })
-look_of asa c p t s zero = Some (record { part = 0; time = c.time; space = s; least = 0 })
-look_of asa c p t s (suc zero) = Some (record { part = 1; time = c.time; space = s; least = suc c.time })
-look_of upon c p t s zero = Some (record { part = 0; time = c.count; space = s; least = 0 })
-look_of upon c p t s (suc zero) = Some (record { part = 1; time = c.time; space = s; least = t })
-look_of attime c p t s zero = at_place p (λ u. record { part = 0; time = u; space = s; least = 0 })
-look_of attime c p t s (suc zero) = Some (record { part = 1; time = t; space = s; least = 0 })
-look_of atspace c p t s zero = at_place p (λ r. record { part = 0; time = t; space = r; least = 0 })
-look_of atspace c p t s (suc zero) = Some (record { part = 1; time = t; space = s; least = 0 })
-look_of _ c p t s i = None
+abbrev pub look_by : Decider → Form → Cursor → (target : Option PlainValue) → (time space : ℕ) → (index : ℕ) → Option Look
+look_by Test f c v t s i = Some (look_at i t s)
+look_by Target f c v t s zero = look_at_target f (record { time = t; space = s; limit = 0; reached = c.time; count = c.count }) v
+look_by Target f c v t s (suc zero) = Some (look_at 1 t s)
+look_by Search f c v t s i = look_of_search f c t s i
+look_by d f c v t s i = None
+
+abbrev pub look_of : Head → Cursor → (target : Option PlainValue) → (time space : ℕ) → (index : ℕ) → Option Look
+look_of (const k) c v t s i = None
+look_of (apply op n) c v t s i = if nat_lt i n then Some (look_at i t s) else None
+look_of (stream f) c v t s i = look_by (form_row f).decider f c v t s i
 
 -- the look of a row's part
 abbrev pub look_of_row : Head → PlainRow → (index : ℕ) → Option Look

@@ -3,7 +3,8 @@ use Rattle.std.proofs.Common.{◌≡◌, ℕ, zero, suc, ◌<◌, ◌≤◌, Boo
 use Rattle.std.proofs.lemmas.Bool.{ltb-true}
 use Rattle.lucid_tree.specs.declared.form.Form.{Form}
 use Rattle.lucid_tree.specs.declared.form.Form.TheVariants as forms
-use Rattle.lucid_tree.specs.Forms.{part_count}
+use Rattle.lucid_tree.specs.Forms.{form_row, part_count}
+use Rattle.lucid_tree.specs.declared.form.Decider.TheVariants.{Target}
 use Rattle.lucid_tree.specs.Rows.{last}
 use Rattle.lucid_equations.specs.declared.answer.Answer.{Answer}
 use Rattle.lucid_equations.specs.declared.step.Place.{Place}
@@ -78,3 +79,17 @@ module _ (n : ℕ) (p : Place) (space : p.space ≤ last) where
   after_looks forms.Atspace a h i =
       to_its_point (StepLooks n) a (λ r. step.Part (part_at 0 p.time r)) (λ r e. (within 0 2 n (omega arith) h, subst IsPoint e i)) tt tt
   after_looks f a h i = tt
+
+-- By the target of its second part a form gives its first part, or a value by itself.
+abbrev pub IsTargeted : Form → Type 0
+IsTargeted f = (form_row f).decider ≡ Target
+
+abbrev pub GivesFirst : Step → Type 0
+GivesFirst (step.Part x) = x.part ≡ 0
+GivesFirst (step.Give g) = Unit {0}
+GivesFirst _ = ⊥
+
+pub gives_first : (p : Place) (a : Answer) (f : Form) → IsTargeted f → GivesFirst (step_after f p a)
+gives_first p a forms.Attime e = to_its_point GivesFirst a (λ u. step.Part (part_at 0 u p.space)) (λ u h. refl) tt tt
+gives_first p a forms.Atspace e = to_its_point GivesFirst a (λ r. step.Part (part_at 0 p.time r)) (λ r h. refl) tt tt
+gives_first p a f e = absurd (cc)

@@ -43,7 +43,7 @@ truth_told (int (pos n)) = far (nat_le n last)
     far false = refl
 truth_told v = refl
 
--- A step by what a value tells is one of four, by the value,
+-- A step by what a value tells is one of four, by the value.
 pub by_its_truth : (P : Step → Type 0) (v : PlainValue) (on off : Step) → (v ≡ truth true → P on) → (v ≡ truth false → P off) → P (step.Give End)
     → P (step.Give Fault) → P (by_truth (answer_of v) on off)
 by_its_truth P (truth true) on off holds fails end other = holds refl
@@ -55,17 +55,6 @@ by_its_truth P (int (pos n)) on off holds fails end other = far (nat_le n last)
     far true = other
     far false = other
 by_its_truth P v on off holds fails end other = other
-
--- or of three.
-pub by_its_place : (P : Step → Type 0) (v : PlainValue) (k : ℕ → Step) → ((n : ℕ) → v ≡ int (pos n) → P (k n)) → P (step.Give End) → P (step.Give Fault)
-    → P (to_point (answer_of v) k)
-by_its_place P (int (pos n)) k there end other = far (nat_le n last)
-  where
-    far : (b : Bool) → P (to_point (if b then At n else Other) k)
-    far true = there n refl
-    far false = other
-by_its_place P eod k there end other = end
-by_its_place P v k there end other = other
 
 -- The same by an answer.
 pub by_its_answer : (P : Step → Type 0) (a : Answer) (on off : Step) → P on → P off → P (step.Give End) → P (step.Give Fault) → P (by_truth a on off)
