@@ -11,12 +11,12 @@ use Rattle.lucid_tree.specs.Members.{Inside}
 use Rattle.lucid_tree.specs.Rows.{Plan, last, gives, looks, look, gives_part, by_test, only_truth, at_zero, arguments, find_true, count_true, Reader}
 use Rattle.lucid_tree.specs.PlanLaws.{points_of}
 use Rattle.lucid_equations.specs.Rows.{constant_at, read}
-use Rattle.lucid_equations.specs.Steps.{answer_of}
+use Rattle.lucid_equations.specs.Steps.{answer_of, IsDecided, IsNoSearch}
 use Rattle.lucid_equations.specs.declared.rows.Node.{Node}
 use Rattle.lucid_equations.specs.declared.rows.Node.TheVariants as node
 use Rattle.lucid_equations.specs.declared.table.Table.{Table}
 use Rattle.lucid_cert_rules.specs.Fed.{Uses, fed}
-use Rattle.lucid_cert_rules.specs.Told.{IsDecided, at_point, told_plan}
+use Rattle.lucid_cert_rules.specs.Told.{at_point, told_plan}
 use Rattle.lucid_cert_rules.specs.declared.rest.Then.{Then}
 use Rattle.lucid_cert_rules.specs.declared.rest.Then.TheVariants.{Give, Judge, Decide, Find, Count, Argument}
 use Rattle.lucid_cert_rules.specs.declared.rest.Look.{Look}
@@ -42,15 +42,10 @@ IsForm (node.Refer n l) = ⊥
 IsForm (node.Call n q l) = ⊥
 IsForm _ = Unit {0}
 
--- one that only moves the point
-abbrev pub OnlyMoves : Node → Type 0
-OnlyMoves (node.First a) = Unit {0}
-OnlyMoves (node.Next a) = Unit {0}
-OnlyMoves (node.Fby a b) = Unit {0}
-OnlyMoves (node.Initial a) = Unit {0}
-OnlyMoves (node.Succ a) = Unit {0}
-OnlyMoves (node.Sby a b) = Unit {0}
-OnlyMoves _ = ⊥
+-- a form over streams was read that doesn't search
+abbrev pub IsReadAtOnce : Option (Form × List ℕ) → Type 0
+IsReadAtOnce None = ⊥
+IsReadAtOnce (Some p) = IsNoSearch p.0
 
 -- What the plan goes on with once a look has a value, at a limit and after looks with these values.
 abbrev pub by_then : (limit : ℕ) → (values : List PlainValue) → Then → (part time space : ℕ) → PlainValue → Plan

@@ -7,20 +7,19 @@ ghost use Rattle.lucid_tree.specs.declared.form.Form.TheVariants as forms;
 ghost use Rattle.lucid_tree.specs.Forms.{part_count};
 ghost use Rattle.lucid_tree.specs.Tree.{Head, stream};
 ghost use Rattle.lucid_tree.specs.Rows.{gives, gives_part, count_true, find_true, last, plan};
-ghost use Rattle.lucid_equations.specs.Steps.{given_value, part_at, start_of, step_after, step_plan};
-ghost use Rattle.lucid_equations.specs.declared.step.Start.TheVariants as start;
+ghost use Rattle.lucid_equations.specs.Steps.{given_value, step_after, step_plan, IsDecided, IsNoSearch, EndsSearch, StepInside};
 ghost use Rattle.lucid_equations.specs.Programs.{table_of};
 ghost use Rattle.lucid_equations.specs.Ranges.{NodeNames, sizes};
-ghost use Rattle.lucid_equations.specs.Rows.{parts};
+ghost use Rattle.lucid_equations.specs.Rows.{parts, read};
 ghost use Rattle.lucid_equations.specs.declared.table.Table.{Table};
-ghost use Rattle.lucid_cert_rules.specs.RestPlans.{IsForm, OnlyMoves, HasHead, by_then, rest_plan, CanGoOn, MayGoOn, Stands, IsLookOf, LooksInside, AreFedAlike};
-ghost use Rattle.lucid_cert_rules.specs.Told.{EndsSearch, IsDecided, StepInside, at_limit, at_point, looked_from, told_plan};
+ghost use Rattle.lucid_cert_rules.specs.RestPlans.{IsForm, IsReadAtOnce, HasHead, by_then, rest_plan, CanGoOn, MayGoOn, Stands, IsLookOf, LooksInside, AreFedAlike};
+ghost use Rattle.lucid_cert_rules.specs.Told.{at_limit, looked_from, told_plan};
 ghost use Rattle.lucid_cert_rules.specs.declared.rest.Then.TheVariants as then;
 ghost use Rattle.lucid_cert_rules.specs.declared.rest.Rest.TheVariants as rest;
 
-use lucid_equations::{Answer, Given, Node, Place, Program, Step, after, judged};
+use lucid_equations::{Answer, Given, Node, Place, Program, Start, Step, after, judged};
 use lucid_ops::Op;
-use lucid_tree::{Form, LAST};
+use lucid_tree::Form;
 use lucid_value::Value;
 
 /// What is done with the value of a look.
@@ -273,26 +272,6 @@ fn count_below(until: u64, space: u64) -> Rest<'static>
     })
 }
 
-// The plan of what only moves the point.
-fn moved(node: Node, time: u64, space: u64) -> Rest<'static>
-    requires { OnlyMoves node }
-    ensures plan { (T : Table) (f : Head) → HasHead T node f → (m : ℕ) (vs : List PlainValue) → rest_plan m vs result ≡ plan m f time space }
-    ensures stands { (k : ℕ) → Stands k result }
-    ensures inside { time ≤ last → space ≤ last → LooksInside (length (parts node)) result }
-{
-    match node {
-        Node::First { .. } => give(0, 0, space),
-        Node::Next { .. } if time < LAST => give(0, time + 1, space),
-        Node::Fby { .. } if time == 0 => give(0, 0, space),
-        Node::Fby { .. } => give(1, time - 1, space),
-        Node::Initial { .. } => give(0, time, 0),
-        Node::Succ { .. } if space < LAST => give(0, time, space + 1),
-        Node::Sby { .. } if space == 0 => give(0, time, 0),
-        Node::Sby { .. } => give(1, time, space - 1),
-        _ => Rest::Fault,
-    }
-}
-
 // A look at a part at the point, with something done with its value.
 fn here(part: u32, time: u64, space: u64, then: Then) -> Rest<'static>
     ensures { result ≡ rest.Look (record { part = part; time = time; space = space; then = then }) }
@@ -305,15 +284,39 @@ fn here(part: u32, time: u64, space: u64, then: Then) -> Rest<'static>
     })
 }
 
-// The plan of a form that looks at a part at its point, and takes its step by the value.
-fn deciding(form: Form, part: u32, time: u64, space: u64) -> Rest<'static>
-    requires decided { IsDecided form }
-    requires look { start_of form (at_point time space) ≡ start.Look (part_at part time space) }
+// The plan of a form that doesn't search: it looks once at most before it takes its step.
+fn begun(form: Form, time: u64, space: u64) -> Rest<'static>
+    requires { IsNoSearch form }
     ensures plan { (m : ℕ) (vs : List PlainValue) → rest_plan m vs result ≡ plan m (stream form) time space }
     ensures stands { (k : ℕ) → Stands k result }
     ensures inside { time ≤ last → space ≤ last → LooksInside (part_count form) result }
 {
-    here(part, time, space, Then::Decide { form })
+    let place = Place {
+        time,
+        space,
+        limit: time,
+        reached: time,
+        count: 0,
+    };
+    let first = lucid_equations::begin(form, place);
+    match first {
+        Start::Look(at) => here(at.part, at.time, at.space, Then::Decide { form }),
+        Start::Step(step) => taken(step),
+    }
+}
+
+// The same of the form over streams that a node is.
+fn at_once(node: Node, time: u64, space: u64) -> Rest<'static>
+    requires { IsReadAtOnce (read node) }
+    ensures plan { (T : Table) (f : Head) → HasHead T node f → (m : ℕ) (vs : List PlainValue) → rest_plan m vs result ≡ plan m f time space }
+    ensures stands { (k : ℕ) → Stands k result }
+    ensures inside { time ≤ last → space ≤ last → LooksInside (length (parts node)) result }
+{
+    let found = node.read();
+    match found {
+        Some((form, _)) => begun(form, time, space),
+        None => unreachable!(),
+    }
 }
 
 /// The plan of a form at a point.
@@ -328,17 +331,12 @@ pub fn begin<'a>(program: &'a Program, node: Node, time: u64, space: u64) -> Res
     match node {
         Node::Const { constant } => Rest::Value(program.constant(constant)),
         Node::Apply { op, .. } => here(0, time, space, Then::Argument { op }),
-        Node::If { .. } => deciding(Form::If, 0, time, space),
-        Node::And { .. } => deciding(Form::And, 0, time, space),
-        Node::Or { .. } => deciding(Form::Or, 0, time, space),
         Node::Whenever { .. } => search(space, time),
         Node::Asa { .. } => search(space, 0),
         Node::Upon { .. } => count_below(time, space),
-        Node::Attime { .. } => deciding(Form::Attime, 1, time, space),
-        Node::Atspace { .. } => deciding(Form::Atspace, 1, time, space),
         Node::Input { .. } | Node::Freeze { .. } | Node::Refer { .. } | Node::Call { .. } => {
             unreachable!()
         }
-        _ => moved(node, time, space),
+        _ => at_once(node, time, space),
     }
 }

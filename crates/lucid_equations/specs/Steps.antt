@@ -161,3 +161,36 @@ StepLooks n _ = Unit {0}
 abbrev pub StartLooks : (count : ℕ) → Start → Type 0
 StartLooks n (start.Look x) = (x.part < n) × (x.space ≤ last)
 StartLooks n (start.Step y) = StepLooks n y
+
+-- What decides is no search.
+abbrev pub NoSearch : Decider → Type 0
+NoSearch Search = ⊥
+NoSearch d = Unit {0}
+
+abbrev pub IsNoSearch : Form → Type 0
+IsNoSearch f = NoSearch (form_row f).decider
+
+-- What decides is the value of one look at the point.
+abbrev pub OneLook : Decider → Type 0
+OneLook Test = Unit {0}
+OneLook Target = Unit {0}
+OneLook d = ⊥
+
+abbrev pub IsDecided : Form → Type 0
+IsDecided f = OneLook (form_row f).decider
+
+-- no search goes on after a step
+abbrev pub EndsSearch : Step → Type 0
+EndsSearch (step.On seen) = ⊥
+EndsSearch step.Nothing = ⊥
+EndsSearch _ = Unit {0}
+
+-- What is looked at is one of so many parts, at a time and a space.
+abbrev pub StepInside : (count : ℕ) → Step → Type 0
+StepInside n (step.Part x) = (x.part < n) × (x.time ≤ last) × (x.space ≤ last)
+StepInside n (step.Judge x) = (x.part < n) × (x.time ≤ last) × (x.space ≤ last)
+StepInside n _ = Unit {0}
+
+abbrev pub StartInside : (count : ℕ) → Start → Type 0
+StartInside n (start.Look x) = (x.part < n) × (x.time ≤ last) × (x.space ≤ last)
+StartInside n (start.Step y) = StepInside n y

@@ -5,23 +5,8 @@ use Rattle.lucid_cert_rules.specs.declared.rest.Rest.{Rest}
 use Rattle.lucid_cert_rules.proofs.Begins.{head_at, begins_alike, apply_alike}
 use Rattle.lucid_cert_rules.proofs.rest.begin.Goals as goal
 
-pub returns-in-If-clause-stands : goal.returns-in-If-clause-stands
-returns-in-If-clause-stands c = c.deciding.ensures.stands 0
-
-pub returns-in-And-clause-stands : goal.returns-in-And-clause-stands
-returns-in-And-clause-stands c = c.deciding-in-And.ensures.stands 0
-
-pub returns-in-Or-clause-stands : goal.returns-in-Or-clause-stands
-returns-in-Or-clause-stands c = c.deciding-in-Or.ensures.stands 0
-
-pub returns-in-Attime-clause-stands : goal.returns-in-Attime-clause-stands
-returns-in-Attime-clause-stands c = c.deciding-in-Attime.ensures.stands 0
-
-pub returns-in-Atspace-clause-stands : goal.returns-in-Atspace-clause-stands
-returns-in-Atspace-clause-stands c = c.deciding-in-Atspace.ensures.stands 0
-
 pub returns-in_default-clause-stands : goal.returns-in_default-clause-stands
-returns-in_default-clause-stands c = c.moved.ensures.stands 0
+returns-in_default-clause-stands c = c.at_once.ensures.stands 0
 
 pub returns-in-Apply-clause-plan : goal.returns-in-Apply-clause-plan
 returns-in-Apply-clause-plan c f h m most l =

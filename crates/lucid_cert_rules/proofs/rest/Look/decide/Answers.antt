@@ -1,12 +1,12 @@
 use Rattle.lucid_cert_rules.proofs.FollowingCommon.{sym, ap, ◌∙◌, subst}
 use Rattle.lucid_equations.specs.declared.step.Place.{Place}
-use Rattle.lucid_equations.specs.Steps.{step_after, step_plan}
-use Rattle.lucid_cert_rules.specs.Told.{StepInside, looked_from}
-use Rattle.lucid_cert_rules.proofs.Ending.{decided_ends}
+use Rattle.lucid_equations.specs.Steps.{step_after, step_plan, EndsSearch, StepInside}
+use Rattle.lucid_equations.proofs.Looks.{after_ends}
+use Rattle.lucid_cert_rules.specs.Told.{looked_from}
 use Rattle.lucid_cert_rules.proofs.rest.Look.decide.Goals as goal
 
 pub taken-requires : goal.taken-requires
-taken-requires c = decided_ends c.args.form c.place.result c.args.answer c.after.result c.requires c.after.ensures
+taken-requires c = subst EndsSearch (sym c.after.ensures) (after_ends c.args.form c.place.result c.args.answer c.requires)
 
 pub returns-clause-plan : goal.returns-clause-plan
 returns-clause-plan c m vs =

@@ -2,10 +2,10 @@ use Rattle.lucid_cert_rules.proofs.FollowingCommon.{◌≡◌, ◌+◌, [], ◌�
 use Rattle.lucid_value.specs.View.{plain}
 use Rattle.lucid_equations.specs.declared.step.Given.{Given}
 use Rattle.lucid_equations.specs.Steps.{given_value}
-use Rattle.lucid_cert_rules.specs.RestPlans.{rest_plan, IsAfter, IsSmall}
-use Rattle.lucid_cert_rules.specs.Told.{IsDecided, looked_from}
+use Rattle.lucid_equations.proofs.Looks.{after_inside}
+use Rattle.lucid_cert_rules.specs.RestPlans.{rest_plan, IsAfter}
+use Rattle.lucid_cert_rules.specs.Told.{looked_from}
 use Rattle.lucid_cert_rules.specs.declared.rest.Then.TheVariants as then
-use Rattle.lucid_cert_rules.proofs.Ending.{decided_inside}
 use Rattle.lucid_cert_rules.proofs.GoesOn.{goes_judge, goes_decide, goes_find, goes_count}
 use Rattle.lucid_cert_rules.proofs.Inside.{parts_by, point_by}
 use Rattle.lucid_cert_rules.proofs.rest.Look.go_on.Goals as goal
@@ -46,10 +46,9 @@ returns-in-Count-clause-plan c m k most vs h l =
 
 pub returns-in-Decide-clause-inside : goal.returns-in-Decide-clause-inside
 returns-in-Decide-clause-inside c n t h =
-    let decided : IsDecided c.in-Decide.form = subst (λ (x : Then). IsSmall x c.args.self.part c.args.self.time) c.in-Decide.is c.requires in
     let p = point_by n c.args.self (then.Decide c.in-Decide.form) c.in-Decide.is h in
-    c.decide.ensures.inside n (decided_inside n (looked_from c.args.self c.args.self.time 0) c.of-answer.result c.in-Decide.form decided
-    (parts_by n c.args.self (then.Decide c.in-Decide.form) c.in-Decide.is h) c.of-answer.ensures.point p.0 p.1)
+    c.decide.ensures.inside n (after_inside n (looked_from c.args.self c.args.self.time 0) p.1 (p.0, p.0, omega arith) c.in-Decide.form c.of-answer.result
+    (parts_by n c.args.self (then.Decide c.in-Decide.form) c.in-Decide.is h) c.of-answer.ensures.point)
 
 pub returns-in-Find-clause-inside : goal.returns-in-Find-clause-inside
 returns-in-Find-clause-inside c n t h =
