@@ -301,7 +301,6 @@ fn put_advice(
 }
 
 // Appends what is said of a byte with which no token begins.
-#[tactic(auto, using(crate::proofs::Stuck::bad_within))]
 fn put_bad_byte(text: &mut Vec<u8>, file: &[u8], source: &[u8], at: u32) -> Result<(), AllocError>
     requires { Refuses source.now (ScanRefusal.BadByte at) }
     ensures { OnOk result (text.new.items ≡ text.old.items ++ scan_text file.now source.now (ScanRefusal.BadByte at)) }
@@ -311,7 +310,6 @@ fn put_bad_byte(text: &mut Vec<u8>, file: &[u8], source: &[u8], at: u32) -> Resu
 }
 
 // Appends what is said of a string or a list that has no end, or is no value.
-#[tactic(auto, using(crate::proofs::Stuck::open_within))]
 fn put_open_text(text: &mut Vec<u8>, file: &[u8], source: &[u8], at: u32) -> Result<(), AllocError>
     requires { Refuses source.now (ScanRefusal.OpenText at) }
     ensures { OnOk result (text.new.items ≡ text.old.items ++ scan_text file.now source.now (ScanRefusal.OpenText at)) }
@@ -321,7 +319,6 @@ fn put_open_text(text: &mut Vec<u8>, file: &[u8], source: &[u8], at: u32) -> Res
 }
 
 // Appends what is said of an integer that is too big.
-#[tactic(auto, using(crate::proofs::Stuck::big_within))]
 fn put_big_number(text: &mut Vec<u8>, file: &[u8], source: &[u8], at: u32) -> Result<(), AllocError>
     requires { Refuses source.now (ScanRefusal.BigNumber at) }
     ensures { OnOk result (text.new.items ≡ text.old.items ++ scan_text file.now source.now (ScanRefusal.BigNumber at)) }

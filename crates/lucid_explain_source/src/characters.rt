@@ -84,7 +84,6 @@ pub fn begins(rest: &[u8], bytes: &[u8]) -> bool
 }
 
 /// What is said of bytes that begin with none of ASCII.
-#[tactic(auto, using(crate::proofs::CharacterLemmas::first_more))]
 pub(crate) fn character_advice(rest: &[u8]) -> &'static [u8]
     ensures { result.now ≡ character_advice rest.now }
 {

@@ -138,7 +138,6 @@ fn put_one(
 }
 
 // Appends the first of the definitions that are told with an advice at a place.
-#[tactic(auto, using(crate::proofs::Lent::told_more))]
 fn put_told(
     text: &mut Vec<u8>,
     source: &[u8],
@@ -173,7 +172,6 @@ pub(crate) fn put_advised(
 }
 
 // The definitions whose own name stands at the place.
-#[tactic(auto, using(crate::proofs::Lent::heads_more))]
 fn heads<'a>(alloc: Global, defs: &[&'a Def], at: u32) -> Result<Vec<&'a Def>, AllocError>
     ensures { IfOk result (λ those. lent those.items ≡ heads at (lent defs.now)) }
 {
@@ -187,7 +185,6 @@ fn heads<'a>(alloc: Global, defs: &[&'a Def], at: u32) -> Result<Vec<&'a Def>, A
 }
 
 // Whether one of these has the name.
-#[tactic(auto, using(crate::proofs::Lent::any_more))]
 fn has_name(these: &[&Def], name: &[u8]) -> bool
     ensures { result ≡ list_any (λ other. same_bytes other.name name.now) (lent these.now) }
 {
@@ -207,7 +204,6 @@ fn is_before(these: &[&Def], at: u32, def: &Def) -> bool
 }
 
 // The first that stands before the place, of a name that one of these has too.
-#[tactic(auto, using(crate::proofs::Lent::find_more))]
 fn find_before<'a>(defs: &[&'a Def], these: &[&Def], at: u32) -> Option<&'a Def>
     ensures { option_copied result ≡ find (is_before at (lent these.now)) (lent defs.now) }
 {
@@ -220,7 +216,6 @@ fn find_before<'a>(defs: &[&'a Def], these: &[&Def], at: u32) -> Option<&'a Def>
 }
 
 // The first whose own name, or a parameter of which, stands at the place.
-#[tactic(auto, using(crate::proofs::Lent::find_more))]
 fn headed<'a>(defs: &[&'a Def], at: u32) -> Option<&'a Def>
     ensures { option_copied result ≡ headed at (lent defs.now) }
 {
@@ -322,7 +317,6 @@ pub fn has_parameter(kind: &DefKind, name: &[u8]) -> bool
 }
 
 // Whether one of them is.
-#[tactic(auto, using(crate::proofs::Lent::any_more))]
 fn is_parameter(defs: &[&Def], name: &[u8]) -> bool
     ensures { result ≡ is_parameter name.now (lent defs.now) }
 {

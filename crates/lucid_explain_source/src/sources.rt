@@ -53,7 +53,6 @@ fn said_of_scan(
 }
 
 // What is said of a source whose tokens go wrong at the place.
-#[tactic(auto, using(lucid_explain_places::proofs::Begun::fault_within))]
 fn said_of_syntax(
     alloc: Global,
     file: &[u8],
