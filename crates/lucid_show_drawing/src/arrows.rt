@@ -25,7 +25,6 @@ fn places(alloc: Global, shown: &[Asked]) -> Result<IndexMap<Cell, usize>, Alloc
 }
 
 // Adds the arrows from the value of a number to those of these cells, as far as they are drawn.
-#[tactic(auto, using(crate::proofs::Places::arrows_by_more))]
 fn add_arrows(
     arrows: &mut Vec<Arrow>,
     places: &IndexMap<Cell, usize>,

@@ -42,7 +42,6 @@ fn asks_nothing(source: &Source<'_>, number: u64) -> bool
 }
 
 /// Adds an entry for each of these tests that asks for nothing.
-#[tactic(auto, using(crate::proofs::Telling::entries_more))]
 pub(crate) fn add_tests(
     source: &Source<'_>,
     entries: &mut Vec<Entry>,
@@ -63,7 +62,6 @@ pub(crate) fn add_tests(
 }
 
 /// What entries tell whole.
-#[tactic(auto, using(crate::proofs::Telling::told_more))]
 pub(crate) fn told_whole(source: &Source<'_>, entries: &[Entry]) -> Result<Vec<Asked>, AllocError>
     requires { AllThere (view_of source.now) entries.now }
     ensures { IfOk result (λ all. AreAsked (view_of source.now) (told_whole entries.now) all.items) }

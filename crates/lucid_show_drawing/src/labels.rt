@@ -263,7 +263,6 @@ fn call_of<'a>(source: &Source<'a>, number: u64) -> Option<&'a Tree>
 }
 
 // Appends the first call that is among what is asked for.
-#[tactic(auto, using(crate::proofs::Loops::calls_more))]
 fn put_calls(source: &Source<'_>, to: &mut Vec<u8>, panel: &[Asked]) -> Result<(), AllocError>
     ensures { OnOk result (to.new.items ≡ to.old.items ++ calls_text (view_of source.now) panel.now) }
 {

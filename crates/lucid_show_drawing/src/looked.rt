@@ -33,7 +33,6 @@ pub(crate) fn box_at(source: &Source<'_>, number: u64) -> Cell
 }
 
 /// The boxes of judgments, each once.
-#[tactic(auto, using(crate::proofs::Boxes::boxes_more))]
 pub(crate) fn boxes(source: &Source<'_>, numbers: &[u64]) -> Result<IndexSet<Cell>, AllocError>
     ensures { IfOk result (λ boxes. boxes.keys ≡ boxes_once (view_of source.now) numbers.now) }
 {
@@ -46,7 +45,6 @@ pub(crate) fn boxes(source: &Source<'_>, numbers: &[u64]) -> Result<IndexSet<Cel
 
 // Adds the judgments at which these looked, so many levels deep.
 #[cycle(looked)]
-#[tactic(auto, using(crate::proofs::Boxes::further_more))]
 fn add_further(
     source: &Source<'_>,
     to: &mut Vec<u64>,
@@ -106,7 +104,6 @@ fn add_for(
 
 // Adds the judgments, which ask or are tests, at which that of a number looked first, so many levels deep.
 #[cycle(looked)]
-#[tactic(auto, using(crate::proofs::Looking::none_left, crate::proofs::Looking::some_left))]
 fn add_looked(
     source: &Source<'_>,
     to: &mut Vec<u64>,
@@ -147,7 +144,6 @@ pub(crate) fn looked_at(source: &Source<'_>, cell: Cell) -> Result<IndexSet<Cell
 }
 
 // The tests of all searches, of each search its own.
-#[tactic(auto, using(crate::proofs::Boxes::tests_more))]
 fn all_tests(source: &Source<'_>) -> Result<Vec<u64>, AllocError>
     ensures { IfOk result (λ these. these.items ≡ all_tests (view_of source.now)) }
 {

@@ -51,7 +51,6 @@ fn base_at(contexts: &[ContextRow], number: u32) -> u32
 }
 
 // How many frames a context has, so many at most.
-#[tactic(auto, using(crate::proofs::Frames::frames_more, crate::proofs::Frames::frames_none))]
 fn frames(contexts: &[ContextRow], number: u32, most: u32) -> u32
     ensures { result ≡ frames most contexts.now number }
 {
@@ -66,7 +65,6 @@ fn frames(contexts: &[ContextRow], number: u32, most: u32) -> u32
 }
 
 // The context without so many of the innermost frames.
-#[tactic(auto, using(crate::proofs::Frames::without_more))]
 fn without(contexts: &[ContextRow], count: u32, number: u32) -> u32
     ensures { result ≡ without count contexts.now number }
 {
