@@ -30,7 +30,6 @@ pub fn part_at(tree: &Tree, at: u32) -> Option<&Tree>
 }
 
 #[cycle(parts)]
-#[tactic(auto, using(crate::proofs::Finding::find_in_both))]
 fn part_in_block<'a>(subject: &'a Tree, defs: &'a Defs, at: u32) -> Option<&'a Tree>
     ensures { option_copied result ≡ find (stands_at at) (all_parts subject.now ++ parts_in_defs defs.now) }
 {

@@ -104,7 +104,6 @@ fn is_near(alloc: Global, name: &[u8], other: &[u8], most: usize) -> Result<bool
 }
 
 // The first definition whose name differs by so many letters at most.
-#[tactic(auto, using(lucid_explain_source::proofs::Lent::find_more))]
 fn find_near<'a>(
     alloc: Global,
     defs: &[&'a Def],
@@ -159,7 +158,6 @@ fn gives_name(name: &[u8], def: &Def) -> bool
 }
 
 // The first definition that does so.
-#[tactic(auto, using(lucid_explain_source::proofs::Lent::find_more))]
 fn find_named<'a>(defs: &[&'a Def], name: &[u8]) -> Option<&'a Def>
     ensures { option_copied result ≡ first_named name.now (lent defs.now) }
 {

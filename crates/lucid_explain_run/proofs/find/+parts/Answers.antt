@@ -1,11 +1,12 @@
-use Rattle.std.proofs.Common.{◌≡◌, rules, true, false, ap, sym, ◌∙◌, List, arith}
+use Rattle.std.proofs.Common.{◌≡◌, rules, true, false, ap, sym, ◌∙◌, List, Option, arith}
 use Rattle.std.specs.Prelude.{is_some}
 use Rattle.std.specs.List.{find}
+use Rattle.std.specs.Option.{option_or}
 use Rattle.lucid_tree.specs.Tree.{PlainTree, PlainTrees, PlainDefs}
 use Rattle.lucid_tree.specs.Rights.{right_of}
 use Rattle.lucid_tree.specs.Size.{nodes_in, nodes_in_defs}
-use Rattle.lucid_explain_run.specs.Parts.{parts_in, parts_in_defs, stands_at, part_at}
-use Rattle.lucid_explain_run.proofs.Finding.{found-first, not-first, parts-of-def, def-nodes}
+use Rattle.lucid_explain_run.specs.Parts.{all_parts, parts_in, parts_in_defs, stands_at, part_at}
+use Rattle.lucid_explain_run.proofs.Finding.{find_in_both, found-first, not-first, parts-of-def, def-nodes}
 use Rattle.lucid_explain_run.proofs.find.+parts.Goals as goal
 
 pub part_in-returns-then-is_some : goal.part_in-returns-then-is_some
@@ -49,3 +50,16 @@ part_in_defs-loop-def-preserved t c =
           ∙ ap (λ (ds : PlainDefs). find (stands_at at) (parts_in_defs ds)) (sym c.in-Some.ensures.steps) ∙ c.loop-def.invariant.2,
       omega (arith, ap nodes_in_defs c.in-Some.ensures.steps, def-nodes d others, c.loop-def.invariant.3),
     )
+
+pub part_in_block-returns-in-Some : goal.part_in_block-returns-in-Some
+part_in_block-returns-in-Some t c =
+    let others = parts_in_defs c.args.defs.now in
+    ap (λ (r : Option PlainTree). option_or r (find (stands_at c.args.at) others)) c.in-Some.ensures
+    ∙ sym (find_in_both c.args.at (all_parts c.args.subject.now) others)
+
+pub part_in_block-returns-in-None : goal.part_in_block-returns-in-None
+part_in_block-returns-in-None t c =
+    let others = parts_in_defs c.args.defs.now in
+    c.part_in_defs.ensures
+    ∙ ap (λ (r : Option PlainTree). option_or r (find (stands_at c.args.at) others)) c.in-None.ensures
+    ∙ sym (find_in_both c.args.at (all_parts c.args.subject.now) others)
