@@ -89,6 +89,7 @@ impl Datons {
     }
 
     /// The place of a key, whose age becomes 0.
+    #[inline(always)]
     pub(crate) fn renew(&mut self, key: Key) -> Option<usize>
         ensures entries { Sets self.old self.new key (option_map renewed (lookup (same_key key) self.old)) }
         ensures count { length self.new ≡ length self.old }

@@ -159,7 +159,7 @@ impl Warehouse {
         self.datons.value(index)
     }
 
-    // Touches a key, if it is held, and gives its place. Inlined for the same reason as `get` below, the one that calls it.
+    // Touches a key, if it is held, and gives its place.
     #[inline(always)]
     fn touch(&mut self, key: Key) -> Option<usize>
         ensures after { IsTouched self.old self.new key }
@@ -172,8 +172,7 @@ impl Warehouse {
     }
 
     /// The value of a key, which is then the key last touched, with age 0. It takes no memory.
-    // Inlined: a demand looks here at each reference, from two places of the engine, so the compiler would leave it a function of its own.
-    // That costs about 60 instructions for each reference.
+    // Inlined with all that it calls, as a demand looks here at each reference: one of them alone would only make the next one a function of its own.
     #[inline(always)]
     pub fn get(&mut self, key: Key) -> Option<&Value>
         ensures* after { sem 𝓛 (EndsTouched self.entry key) }
