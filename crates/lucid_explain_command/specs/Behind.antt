@@ -1,12 +1,14 @@
 -- Of what more is said behind a call.
-use Rattle.std.specs.Prelude.{◌≡◌, ℕ, ◌==◌, nat_eq, Bool, true, false, ◌&&◌, not, is_none, if◌then◌else◌, List, [], codes, Option, Some, None}
+use Rattle.std.specs.Prelude.{◌≡◌, ℕ, ◌==◌, nat_eq, nat_le, Bool, true, false, ◌&&◌, not, is_none, if◌then◌else◌, List, [], length, codes, Option, Some, None, Ok, Err}
 use Rattle.std.specs.List.{list_any, starts_with}
 use Rattle.clap.specs.Words.{Text}
 use Rattle.lucid_words.specs.Asked.{PlainWords, words_asked}
 use Rattle.lucid_report.specs.declared.status.Status.{Status}
 use Rattle.lucid_report.specs.declared.status.Status.TheVariants as status
+use Rattle.lucid_report.specs.declared.stop.Done.TheVariants as done
+use Rattle.lucid_report.specs.Status.{Outcome}
 use Rattle.lucid_explain_report.specs.Said.{name_in}
-use Rattle.lucid_explain_report.specs.Notes.{TellsNote}
+use Rattle.lucid_explain_report.specs.Notes.{most_noted, TellsNote}
 use Rattle.lucid_explain_command.specs.Noting.{Seen}
 use Rattle.lucid_explain_command.specs.declared.behind.Behind.{Behind}
 use Rattle.lucid_explain_command.specs.declared.behind.Behind.TheVariants as behind
@@ -35,6 +37,20 @@ wrote_lines _ n = false
 
 abbrev pub wrote_values : Status → Seen → Bool
 wrote_values s seen = is_none seen.first && wrote_lines s seen.lines
+
+-- a program or a table was run
+abbrev pub has_run : Outcome → Bool
+has_run (Ok (done.Ran summary stats)) = true
+has_run (Ok done.Written) = false
+has_run (Err why) = false
+
+-- one of the words is `--from-flat`, or begins so
+abbrev pub has_flat : (words : List Text) → Bool
+has_flat words = list_any (λ word. starts_with nat_eq word (codes "--from-flat")) words
+
+-- Something may be noted of the source of a call that wrote values: that was a run, and no table's, and the source is short enough.
+abbrev pub may_note : (words : List Text) → (source : List ℕ) → Outcome → Bool
+may_note words source o = has_run o && (not (has_flat words) && nat_le (length source) most_noted)
 
 -- one of the words is `--count`, or begins so
 abbrev pub has_count : (words : List Text) → Bool

@@ -1,5 +1,5 @@
 -- What a call that explains does: what the command does with the same words, with more behind its report.
-use Rattle.std.specs.Prelude.{◌≡◌, ℕ, Bool, true, false, List, length, codes, ◌==◌, Result, Ok, Err, ◌⊎◌, Vec}
+use Rattle.std.specs.Prelude.{◌≡◌, ℕ, Bool, true, false, ◌&&◌, List, length, codes, ◌==◌, Result, Ok, Err, ◌⊎◌, Vec}
 use Rattle.std.specs.Global.{Global}
 use Rattle.std.specs.declared.alloc.AllocError.{AllocError}
 use Rattle.clap.specs.Words.{Text}
@@ -24,7 +24,7 @@ use Rattle.lucid_explain_command.specs.Keeping.{IsRead}
 use Rattle.lucid_explain_command.specs.Noting.{Seen, Notes}
 use Rattle.lucid_explain_command.specs.declared.behind.Behind.{Behind}
 use Rattle.lucid_explain_command.specs.declared.behind.Behind.TheVariants as behind
-use Rattle.lucid_explain_command.specs.Behind.{behind_of, has_count, SaysCount, wrote_values, SaysNote}
+use Rattle.lucid_explain_command.specs.Behind.{behind_of, has_count, SaysCount, wrote_values, may_note, SaysNote}
 use Rattle.lucid_explain_command.specs.Errors.{SaysError}
 
 -- what is said where there is no memory for what would be said
@@ -96,14 +96,14 @@ ReportsBehind files terminal words source (behind.Value time) before after = Wri
 ReportsBehind files terminal words source behind.Count before after = ReportsCount words (has_count words) before after
 ReportsBehind files terminal words source behind.Nothing before after = after ≡ before
 
--- What is noted of the source is reported where the call wrote values.
-abbrev pub ReportsNote : (words : List Text) → (source : List ℕ) → (has_values : Bool) → (before after : Told) → Type 0
+-- What is noted of the source is reported where something may be noted.
+abbrev pub ReportsNote : (words : List Text) → (source : List ℕ) → (may : Bool) → (before after : Told) → Type 0
 ReportsNote words source true before after = WritesText (SaysNote words source) before after
 ReportsNote words source false before after = after ≡ before
 
 -- The clauses hold of the call and of its outcome, whose line and status are told; and behind the line stands what explains that very outcome, by what
 -- the call read of its source. Where the standard input is a terminal, what is read from there stands before the line. Behind all stands where an
--- `error` came from, or how many lines a run writes, by what is noted of the bytes that were written; and behind values what is noted of the source.
+-- `error` came from, or how many lines a run writes, by what is noted of the bytes that were written; and behind the values of a short program what is noted of it.
 pub record IsExplained (files : Files) (terminal : Bool) (words : List Text) (c : Call) (source : List ℕ) (seen : Seen) (report_before report_after : Told) (s : Status) : Type 0 where
   pub outcome : Outcome
   pub met : MeetsOutcome c outcome
@@ -115,4 +115,4 @@ pub record IsExplained (files : Files) (terminal : Bool) (words : List Text) (c 
   pub reports : Reports files words source outcome s between halfway
   pub almost : Told
   pub more : ReportsBehind files terminal words source (behind_of s seen) halfway almost
-  pub note : ReportsNote words source (wrote_values s seen) almost report_after
+  pub note : ReportsNote words source (wrote_values s seen && may_note words source outcome) almost report_after

@@ -4,12 +4,12 @@ ghost use Rattle.std.specs.String.{string_bytes};
 ghost use Rattle.lucid_words.specs.Asked.{plain_words, words_asked};
 ghost use Rattle.lucid_explain_command.specs.Noting.{plain_noted};
 ghost use Rattle.lucid_explain_command.specs.Prompted.{asks_lines};
-ghost use Rattle.lucid_explain_command.specs.Behind.{lines_behind, done_behind, behind_of, wrote_lines, wrote_values, has_count, count_said, SaysCount, NotesOf, SaysNote};
+ghost use Rattle.lucid_explain_command.specs.Behind.{lines_behind, done_behind, behind_of, wrote_lines, wrote_values, has_run, has_flat, may_note, has_count, count_said, SaysCount, NotesOf, SaysNote};
 
 use crate::noted::Noted;
 use crate::prompt::asks_lines;
-use lucid_explain_report::explain_note;
-use lucid_report::Status;
+use lucid_explain_report::{MOST_NOTED, explain_note};
+use lucid_report::{Done, Status, Stop};
 use lucid_words::{Words, WordsRefusal, read_words};
 use std::alloc::{AllocError, Global};
 
@@ -74,6 +74,32 @@ pub(crate) fn wrote_values(status: Status, noted: Noted) -> bool
     ensures { result ≡ wrote_values status (plain_noted noted) }
 {
     noted.first.is_none() && wrote_lines(status, noted.lines)
+}
+
+// Whether a program or a table was run.
+fn has_run(outcome: &Result<Done, Stop>) -> bool
+    ensures { result ≡ has_run outcome.now }
+{
+    match outcome {
+        Ok(Done::Ran { .. }) => true,
+        Ok(Done::Written) | Err(_) => false,
+    }
+}
+
+// Whether one of the words is `--from-flat`, or begins so.
+fn has_flat(words: &[String]) -> bool
+    ensures { result ≡ has_flat (map string_bytes words.now) }
+{
+    words
+        .iter()
+        .any(|word| word.as_bytes().starts_with(b"--from-flat"))
+}
+
+/// Whether something may be noted of the source of a call that wrote values. It takes no memory to know.
+pub(crate) fn may_note(words: &[String], source: &[u8], outcome: &Result<Done, Stop>) -> bool
+    ensures { result ≡ may_note (map string_bytes words.now) source.now outcome.now }
+{
+    has_run(outcome) && (!has_flat(words) && source.len() <= MOST_NOTED)
 }
 
 /// Whether one of the words is `--count`, or begins so.

@@ -1,5 +1,5 @@
 //! The command, with what explains how it ended.
-ghost use Rattle.std.specs.Prelude.{◌≡◌, ◌==◌, drop, length, map};
+ghost use Rattle.std.specs.Prelude.{◌≡◌, ◌==◌, ◌&&◌, drop, length, map};
 ghost use Rattle.std.specs.String.{string_bytes};
 ghost use Rattle.lucid_words.specs.Asked.{words_asked};
 ghost use Rattle.lucid_top.specs.Call.{call};
@@ -8,11 +8,13 @@ ghost use Rattle.lucid_report.specs.Telling.{WritesLine};
 ghost use Rattle.lucid_explain_command.specs.Prompted.{IsPrompt};
 ghost use Rattle.lucid_explain_command.specs.Keeping.{plain_kept, remembered};
 ghost use Rattle.lucid_explain_command.specs.Noting.{plain_noted};
-ghost use Rattle.lucid_explain_command.specs.Behind.{has_count, SaysCount, wrote_values, SaysNote};
+ghost use Rattle.lucid_explain_command.specs.Behind.{has_count, SaysCount, may_note, SaysNote};
 ghost use Rattle.lucid_explain_command.specs.Errors.{SaysError};
 ghost use Rattle.lucid_explain_command.specs.Explained.{unsaid_text, or_unsaid, Writes, WritesText, Prompts, wants_memory, cut_status, ReportsExplanation, ReportsStop, ReportsCause, Reports, ReportsCount, ReportsBehind, ReportsNote, IsExplained};
 
-use crate::behind::{Behind, behind_of, has_count, text_of_count, text_of_note, wrote_values};
+use crate::behind::{
+    Behind, behind_of, has_count, may_note, text_of_count, text_of_note, wrote_values,
+};
 use crate::errors::text_of_error;
 use crate::help::HELP;
 use crate::prompt::text_of_prompt;
@@ -238,11 +240,18 @@ fn report_noted<E: Sink>(alloc: Global, called: &Called<'_>, report: &mut E)
     report_text(report, text);
 }
 
-// Does so where the call wrote values.
-fn report_note<E: Sink>(alloc: Global, called: &Called<'_>, has_values: bool, report: &mut E)
-    ensures { ReportsNote (map string_bytes called.now.words.now) called.now.source.now has_values (told E.written E.faults E.late report.old) (told E.written E.faults E.late report.new) }
+// Does so where the call wrote values, and something may be noted.
+fn report_note<E: Sink>(
+    alloc: Global,
+    called: &Called<'_>,
+    outcome: &Result<Done, Stop>,
+    has_values: bool,
+    report: &mut E,
+)
+    ensures { ReportsNote (map string_bytes called.now.words.now) called.now.source.now (has_values && may_note (map string_bytes called.now.words.now) called.now.source.now outcome.now)
+        (told E.written E.faults E.late report.old) (told E.written E.faults E.late report.new) }
 {
-    if has_values {
+    if has_values && may_note(called.words, called.source, outcome) {
         report_noted(alloc, called, report);
     }
 }
@@ -250,8 +259,8 @@ fn report_note<E: Sink>(alloc: Global, called: &Called<'_>, has_values: bool, re
 /// Does what the command does with these words, and answers its status. It reports the command's line, and behind it what explains how the call ended,
 /// by what it read of its source. Where the standard input is a terminal, it says before the call which input is read from there, for which the
 /// program's file may be read once more. Behind a run that wrote `error`, or that is done and wrote no line, it says where the value came from, for
-/// which files of inputs are read again; and behind 20 lines, where no count is given, that there may be more. Behind a run that wrote values it says what
-/// is noted of the source.
+/// which files of inputs are read again; and behind 20 lines, where no count is given, that there may be more. Behind a run of a short program that wrote
+/// values it says what is noted of the source.
 pub fn lucid_explain<P: Places, K: Sink, E: Sink, F: Outlook>(
     alloc: Global,
     words: &[String],
@@ -276,7 +285,8 @@ pub fn lucid_explain<P: Places, K: Sink, E: Sink, F: Outlook>(
     let noted = out.noted();
     let behind = behind_of(status, noted);
     report_behind(alloc, &called, behind, outlook, report);
-    report_note(alloc, &called, wrote_values(status, noted), report);
+    let has_values = wrote_values(status, noted);
+    report_note(alloc, &called, &outcome, has_values, report);
     status
 }
 

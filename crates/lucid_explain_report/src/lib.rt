@@ -5,7 +5,7 @@
 pub use crate::causes::asks_columns;
 pub use crate::explaining::explain_stop;
 pub use crate::judgments::PAST_CERTIFICATE;
-pub use crate::notes::explain_note;
+pub use crate::notes::{MOST_NOTED, explain_note};
 pub use crate::outlook::{Again, Outlook, PAST_SOURCE, RealOutlook};
 pub use crate::sources::given_names;
 pub use crate::stops::stop_text;

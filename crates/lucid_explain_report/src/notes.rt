@@ -14,8 +14,8 @@ use lucid_value::is_blank;
 use lucid_words::Words;
 use std::alloc::{AllocError, Global};
 
-// Of a longer source nothing is noted: each of its tokens is held against all.
-const MOST_NOTED: usize = 4096;
+/// So many bytes a source has at most of which something is noted: each of its tokens is held against all.
+pub const MOST_NOTED: usize = 4096;
 
 /// Of what something is noted.
 #[derive(Clone, Copy)]

@@ -2,7 +2,8 @@ use Rattle.std.proofs.Common.{Bool, List, ℕ, ap, ◌∙◌, map, subst}
 use Rattle.std.specs.String.{string_bytes}
 use Rattle.lucid_explain_command.proofs.Common.{told}
 use Rattle.lucid_explain_command.specs.declared.behind.Behind.{Behind}
-use Rattle.lucid_explain_command.specs.Behind.{behind_of, wrote_values}
+use Rattle.std.specs.Prelude.{◌&&◌}
+use Rattle.lucid_explain_command.specs.Behind.{behind_of, wrote_values, may_note}
 use Rattle.lucid_explain_command.specs.Keeping.{plain_kept, remembered, IsRead}
 use Rattle.lucid_explain_command.specs.Noting.{Seen, Notes, plain_noted}
 use Rattle.lucid_explain_command.specs.Explained.{Reports, ReportsBehind, ReportsNote}
@@ -24,8 +25,8 @@ returns g c =
     let R : List ℕ → Type 0 = λ z. Reports files words z outcome status between halfway in
     let P : Behind → Type 0 = λ b. ReportsBehind files terminal words c.read.result.now b halfway almost in
     let Q : List ℕ → Type 0 = λ z. ReportsBehind files terminal words z (behind_of status (plain_noted c.outcome_of-outcome.new.out.noted)) halfway almost in
-    let V : Bool → Type 0 = λ b. ReportsNote words c.read.result.now b almost after in
-    let W : List ℕ → Type 0 = λ z. ReportsNote words z (wrote_values status (plain_noted c.outcome_of-outcome.new.out.noted)) almost after in
+    let V : Bool → Type 0 = λ b. ReportsNote words c.read.result.now (b && may_note words c.read.result.now outcome) almost after in
+    let W : List ℕ → Type 0 = λ z. ReportsNote words z (wrote_values status (plain_noted c.outcome_of-outcome.new.out.noted) && may_note words z outcome) almost after in
     let N : Seen → Type 0 = λ s. Notes (g.K.Sink.written c.outcome_of-outcome.new.out.sink) s in
     record {
       outcome = outcome;
@@ -38,5 +39,5 @@ returns g c =
       reports = subst R c.read.ensures.value c.report_call-status.ensures;
       almost = almost;
       more = subst Q c.read.ensures.value (subst P (c.behind_of-behind.ensures ∙ ap (behind_of status) c.noted-noted.ensures.value) c.report_behind.ensures);
-      note = subst W c.read.ensures.value (subst V (c.wrote_values.ensures ∙ ap (wrote_values status) c.noted-noted.ensures.value) c.report_note.ensures);
+      note = subst W c.read.ensures.value (subst V (c.wrote_values-has_values.ensures ∙ ap (wrote_values status) c.noted-noted.ensures.value) c.report_note.ensures);
     }
