@@ -130,6 +130,18 @@ def in_little_memory(run, least, name, source, words, given):
 
 
 @long_case
+def want_of_memory_is_explained(run):
+    explaining = run.explaining()
+    least = least_address_space(explaining)
+    source, words, given = next(it[1:] for it in HUNGRY if it[0] == "a deep demand")
+    run.source(source)
+    ended = [explaining.lucid("p", *words, given=given, limits=f"ulimit -v {least + more}") for more in (0, 128, 256, 512, 1024, 2048, 4096)]
+    reports = {it.report for it in ended if it.status == 7}
+    said = b"no memory\nThere is not memory enough. A smaller --depth needs less, and so does --policy last with a small --room.\n"
+    check(reports == {said}, shown(reports))
+
+
+@long_case
 def little_memory_gives_whole_lines_and_a_status(run):
     least = least_address_space(run)
     refused = sum(in_little_memory(run, least, *it) for it in HUNGRY)

@@ -4,6 +4,8 @@ A fence is what its first line says, in a form that pandoc reads too:
 
   ```lucid                       a program
   ```{.lucid words="WORDS"}      a program that is run with these words behind its file
+  ```{.made words="WORDS"}       the same of a program that is too large for a page: a line of the shell, which writes it
+  ```before                      lines of the shell that stand before the calls of the program above, as `exec > /dev/full`
   ```{.input file=NAME}          a file of that name for the programs up to the next heading; `-` is the standard input
   ```output                      what the program above it writes; each program has one
   ```{.output status=N}          the same of a program that ends with status N, which isn't 0
@@ -74,6 +76,7 @@ class Shown:
     """A program of a page, with what is said of it."""
 
     def __init__(self, fence, inputs):
+        self.is_made, self.limits = fence.kind == "made", ""
         self.source, self.words, self.at, self.above = fence.text, shlex.split(fence.words), fence.at, fence.above
         self.inputs, self.out, self.status, self.report, self.explained = dict(inputs), None, 0, None, None
         self.shown = []
@@ -85,13 +88,16 @@ def programs(page):
     for it in fences(page):
         if it.section != section:
             inputs, section = {}, it.section
-        if it.kind == "lucid":
+        if it.kind in ("lucid", "made"):
             found.append(Shown(it, inputs))
         elif it.kind == "input":
             inputs[it.words] = it.text
-        elif it.kind == "shown":
+        elif it.kind in ("shown", "before"):
             check(found, f"line {it.at}: no program stands before it")
-            found[-1].shown.append(it)
+            if it.kind == "shown":
+                found[-1].shown.append(it)
+            else:
+                found[-1].limits = it.text
         elif it.kind in ("output", "report", "explained"):
             check(found, f"line {it.at}: no program stands before it")
             kind = "out" if it.kind == "output" else it.kind
@@ -163,10 +169,11 @@ def one(name, shown_program):
         for file, text in it.inputs.items():
             if file != "-":
                 run.write(file, text)
-        run.source(it.source, "program.lucid")
-        run.lucid("program.lucid", *it.words, given=it.inputs.get("-", "")).must(it.out, it.status, it.report)
+        run.source(run.shell(it.source).must().out if it.is_made else it.source, "program.lucid")
+        how = {"given": it.inputs.get("-", ""), "limits": it.limits}
+        run.lucid("program.lucid", *it.words, **how).must(it.out, it.status, it.report)
         if it.explained is not None:
-            run.explaining().lucid("program.lucid", *it.words, given=it.inputs.get("-", "")).must(it.out, it.status, it.explained)
+            run.explaining().lucid("program.lucid", *it.words, **how).must(it.out, it.status, it.explained)
         for fence in it.shown:
             words, call = shlex.split(fence.words), call_above(fence.above, "lucid_show")
             check(call is None or sorted(call) == sorted(words), f"line {fence.at}: the call above it has the words {shown(call)}")
