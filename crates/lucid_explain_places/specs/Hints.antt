@@ -130,10 +130,10 @@ definition_hint read those =
     else if has (codes "1") those then codes "An expression is missing before this.\n"
     else []
 
--- of a `;` that lacks at the end of a line
+-- of a `;` that lacks at the end of a line; before a comment whole division was mostly meant
 abbrev pub line_hint : (gap : List ℕ) → List ℕ
 line_hint gap =
-    if has_comment gap then codes "Is the `;` missing before the `//`? What stands behind that is a comment: whole division is `div`.\n"
+    if has_comment gap then codes "Whole division is `div`: what stands behind `//` is a comment. Or is the `;` missing before it?\n"
     else codes "Is the `;` missing at the end of the line before?\n"
 
 -- behind a name, and before no `=`: an argument was meant

@@ -256,7 +256,7 @@ fn line_hint(gap: &[u8]) -> &'static [u8]
     ensures { result.now ≡ line_hint gap.now }
 {
     if has_comment(gap) {
-        b"Is the `;` missing before the `//`? What stands behind that is a comment: whole division is `div`.\n"
+        b"Whole division is `div`: what stands behind `//` is a comment. Or is the `;` missing before it?\n"
     } else {
         b"Is the `;` missing at the end of the line before?\n"
     }

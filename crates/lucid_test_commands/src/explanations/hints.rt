@@ -191,7 +191,7 @@ static HINTS: [Ends; 40] = [
     Ends {
         source: b"h where\n  h = n // 2;\n  n = 1;\nend",
         begin: "syntax at 24\n",
-        end: ".\nIs the `;` missing before the `//`? What stands behind that is a comment: whole division is `div`.\n",
+        end: ".\nWhole division is `div`: what stands behind `//` is a comment. Or is the `;` missing before it?\n",
     },
     Ends {
         source: b"n\n  n = 1;\nend",
@@ -260,7 +260,7 @@ static MORE_HINTS: [Ends; 47] = [
     Ends {
         source: b"x + y where\n  x = 1 // one\n  y = 2;\nend",
         begin: "syntax at 29\n",
-        end: ".\nIs the `;` missing before the `//`? What stands behind that is a comment: whole division is `div`.\n",
+        end: ".\nWhole division is `div`: what stands behind `//` is a comment. Or is the `;` missing before it?\n",
     },
     Ends {
         source: b"y where y = x * x where x = 3; end",
