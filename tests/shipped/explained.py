@@ -79,6 +79,18 @@ def files_that_cannot_be_read_are_named(run):
     run.explaining().lucid("none").must("", 3, "read fault\nThis file can't be opened or read: none\n")
     run.source("a")
     run.explaining().lucid("p", "a=none").must("", 3, "read fault\nThis file can't be opened or read: none\n")
+    run.explaining().lucid("my programs/none here").must("", 3, "read fault\nThis file can't be opened or read: my programs/none here\n")
+
+
+WRITTEN = "A program stands in a file: put this into one, say program.lucid, and give its name. The values of an input stand in a file too.\n"
+
+
+@case
+def a_program_in_place_of_its_file_is_told(run):
+    program = "n where n = 0 fby n + 1; end"
+    run.explaining().lucid(program).must("", 3, f"read fault\nThis file can't be opened or read: {program}\n" + WRITTEN)
+    run.source("a")
+    run.explaining().lucid("p", "a=1 2 3").must("", 3, "read fault\nThis file can't be opened or read: 1 2 3\n" + WRITTEN)
 
 
 @case

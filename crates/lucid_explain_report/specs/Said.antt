@@ -4,6 +4,7 @@ use Rattle.std.specs.Borrow.{Bor}
 use Rattle.std.specs.List.{flat_map, list_any, prefix_len, slice_get}
 use Rattle.clap.specs.Words.{Text}
 use Rattle.lucid_value.specs.Plain.{same_bytes}
+use Rattle.lucid_value.specs.Reading.{is_blank}
 use Rattle.lucid_scan.specs.Refusals.{most_source_bytes}
 use Rattle.lucid_words.specs.Plain.{PlainSource, file, made}
 use Rattle.lucid_words.specs.Asked.{PlainWords, words_asked}
@@ -52,8 +53,23 @@ given_file given = given.1
 abbrev pub files_asked : PlainWords → List Text
 files_asked asked = source_files asked.source ++ (certificate_files asked.check ++ map given_file asked.given)
 
+abbrev pub unread_text : (name : List ℕ) → List ℕ
+unread_text name = codes "This file can't be opened or read: " ++ (shown_text name ++ codes "\n")
+
+-- A program or values themselves, in place of the name of their file: blanks stand there, and neither a `.` (46) nor a `/` (47). The name of a file mostly
+-- has one of these, and a program neither, but in comments and strings.
+abbrev pub has_mark : (name : List ℕ) → Bool
+has_mark name = list_any (λ b. b == 46 || b == 47) name
+
+abbrev pub is_written : (name : List ℕ) → Bool
+is_written name = list_any is_blank name && not (has_mark name)
+
+abbrev pub written_text : (name : List ℕ) → List ℕ
+written_text name =
+    if is_written name then codes "A program stands in a file: put this into one, say program.lucid, and give its name. The values of an input stand in a file too.\n" else []
+
 abbrev pub fault_text : (name : List ℕ) → List ℕ
-fault_text name = codes "This file can't be opened or read: " ++ (shown_text name ++ codes "\n")
+fault_text name = unread_text name ++ written_text name
 
 -- of a fault where all files can be read now
 unfoldable pub unknown_text : List ℕ

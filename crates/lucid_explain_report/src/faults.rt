@@ -1,12 +1,15 @@
 //! What is said of a read fault.
 ghost use Rattle.std.specs.Prelude.{◌≡◌, ◌++◌, map, [], ◌∷◌, IfOk, OnOk};
+ghost use Rattle.std.specs.List.{list_any};
+ghost use Rattle.lucid_value.specs.Reading.{is_blank};
 ghost use Rattle.lucid_words.specs.Asked.{plain_words};
 ghost use Rattle.lucid_words.specs.Plain.{plain_given, plain_source};
 ghost use Rattle.lucid_explain_report.specs.Files.{Held, IsSeen, is_unread, plain_again};
-ghost use Rattle.lucid_explain_report.specs.Said.{shown_text, source_files, certificate_files, given_file, files_asked, fault_text, TellsFiles, unknown_text, or_unknown, SaysFiles};
+ghost use Rattle.lucid_explain_report.specs.Said.{shown_text, source_files, certificate_files, given_file, files_asked, unread_text, has_mark, is_written, written_text, fault_text, TellsFiles, unknown_text, or_unknown, SaysFiles};
 
 use crate::outlook::{Again, Outlook};
 use lucid_explain_places::put_shown;
+use lucid_value::is_blank;
 use lucid_words::{Given, Source, Words};
 use std::alloc::{AllocError, Global};
 
@@ -38,13 +41,53 @@ fn is_unread<F: Outlook>(alloc: Global, name: &str, outlook: &F) -> Result<bool,
     Ok(shows_unread(&again))
 }
 
-// Appends what is said of a file that can't be read.
-fn put_fault(text: &mut Vec<u8>, name: &str) -> Result<(), AllocError>
-    ensures { OnOk result (text.new.items ≡ text.old.items ++ fault_text name.now) }
+// Appends that a file can't be read.
+fn put_unread(text: &mut Vec<u8>, name: &str) -> Result<(), AllocError>
+    ensures { OnOk result (text.new.items ≡ text.old.items ++ unread_text name.now) }
 {
     text.extend_from_slice(b"This file can't be opened or read: ")?;
     put_front(text, name.as_bytes())?;
     text.extend_from_slice(b"\n")
+}
+
+// Whether a blank stands there.
+fn has_blank(name: &[u8]) -> bool
+    ensures { result ≡ list_any is_blank name.now }
+{
+    name.iter().any(|byte| is_blank(*byte))
+}
+
+// Whether a `.` or a `/` stands there.
+fn has_mark(name: &[u8]) -> bool
+    ensures { result ≡ has_mark name.now }
+{
+    name.iter().any(|byte| *byte == b'.' || *byte == b'/')
+}
+
+// Whether this is a program or values themselves, in place of the name of their file.
+fn is_written(name: &[u8]) -> bool
+    ensures { result ≡ is_written name.now }
+{
+    has_blank(name) && !has_mark(name)
+}
+
+// What is said of them.
+fn written_text(name: &[u8]) -> &'static [u8]
+    ensures { result.now ≡ written_text name.now }
+{
+    if is_written(name) {
+        b"A program stands in a file: put this into one, say program.lucid, and give its name. The values of an input stand in a file too.\n"
+    } else {
+        b""
+    }
+}
+
+// Appends what is said of a file that can't be read.
+fn put_fault(text: &mut Vec<u8>, name: &str) -> Result<(), AllocError>
+    ensures { OnOk result (text.new.items ≡ text.old.items ++ fault_text name.now) }
+{
+    put_unread(text, name)?;
+    text.extend_from_slice(written_text(name.as_bytes()))
 }
 
 // Appends what is said of the file, where it can't be read now.

@@ -1,7 +1,7 @@
 use Rattle.lucid_explain_report.proofs.Common.{ℕ, List, ◌++◌, append_assoc, ap, ◌∙◌, codes}
 use Rattle.lucid_explain_report.specs.Said.{shown_text}
 use Rattle.lucid_explain_report.proofs.Told.{ended}
-use Rattle.lucid_explain_report.proofs.faults.put_fault.Goals as goal
+use Rattle.lucid_explain_report.proofs.faults.put_unread.Goals as goal
 
 pub returns : goal.returns
 returns c =
