@@ -178,10 +178,15 @@ is_shown_option option =
 abbrev pub dash_bytes : List ℕ
 dash_bytes = 226 ∷ 128 ∷ []
 
+-- A `=` (61) stands in the word.
+abbrev pub has_equals : (word : Text) → Bool
+has_equals word = list_any (λ b. b == 61) word
+
 -- of what is no option
 abbrev pub argument_advice : (word : Text) → List ℕ
 argument_advice word =
     if begins word dash_bytes then codes "An option begins with two plain minus signs, as --count.\n"
+    else if has_equals word then codes "Before `=` stands the name of an input, and behind it its file, without blanks: `a=data.txt`.\n"
     else codes "What an option wants stands behind it: of --count, --depth, --age and --room a number from 1 to 1000000, of --columns names as n,m, of --why a time. Then comes the program's file, and then NAME=FILE, as one word without blanks, for each input that has a file.\n"
 
 -- the words that go with no others

@@ -2,7 +2,7 @@
 ghost use Rattle.std.specs.Prelude.{◌≡◌, ℕ, ◌<◌, ◌≤◌, ◌+◌, ◌++◌, length, min, map, take, true, false, not, ◌==◌, IfOk, IfSome, IfNone, OnOk};
 ghost use Rattle.std.specs.String.{string_bytes};
 ghost use Rattle.std.specs.List.{prefix_len};
-ghost use Rattle.lucid_explain_report.specs.Said.{goes_on, is_right_with, option_of, is_number_option, is_shown_option, argument_advice, stands_alone, word_advice, wrong_text, texts_of, SaysWords};
+ghost use Rattle.lucid_explain_report.specs.Said.{goes_on, is_right_with, option_of, is_number_option, is_shown_option, has_equals, argument_advice, stands_alone, word_advice, wrong_text, texts_of, SaysWords};
 
 use crate::faults::put_front;
 use lucid_explain_source::begins;
@@ -111,12 +111,21 @@ fn is_shown_option(option: &[u8]) -> bool
         || option == b"--steps".as_slice()
 }
 
+// Whether a `=` stands in the word.
+fn has_equals(word: &[u8]) -> bool
+    ensures { result ≡ has_equals word.now }
+{
+    word.iter().any(|byte| *byte == b'=')
+}
+
 // What is said of a word that is no option.
 fn argument_advice(word: &[u8]) -> &'static [u8]
     ensures { result.now ≡ argument_advice word.now }
 {
     if begins(word, b"\xe2\x80") {
         b"An option begins with two plain minus signs, as --count.\n"
+    } else if has_equals(word) {
+        b"Before `=` stands the name of an input, and behind it its file, without blanks: `a=data.txt`.\n"
     } else {
         b"What an option wants stands behind it: of --count, --depth, --age and --room a number from 1 to 1000000, of --columns names as n,m, of --why a time. Then comes the program's file, and then NAME=FILE, as one word without blanks, for each input that has a file.\n"
     }

@@ -282,7 +282,7 @@ static INPUTS: [Row; 9] = [
 ];
 
 // Words that are refused.
-static WORDS: [Row; 12] = [
+static WORDS: [Row; 13] = [
     Row {
         words: "",
         source: "1",
@@ -348,6 +348,12 @@ static WORDS: [Row; 12] = [
         source: "1",
         status: Status::Usage,
         report: "usage: lucid [--count N] [--depth N] [--policy keep|none|age|last] [--age K] [--room N] [--stats] [--print] [--columns LIST] [--cycles] [--why T] [--check FILE] [--flat] [--from-flat] PROGRAM [NAME=FILE]... | lucid --make N\nThis word doesn't go with those before it: -\nNo file is called `-`: the program stands in a file, and an input without NAME=FILE is read from the standard input.\n",
+    },
+    Row {
+        words: "p data.txt=a",
+        source: "1",
+        status: Status::Usage,
+        report: "usage: lucid [--count N] [--depth N] [--policy keep|none|age|last] [--age K] [--room N] [--stats] [--print] [--columns LIST] [--cycles] [--why T] [--check FILE] [--flat] [--from-flat] PROGRAM [NAME=FILE]... | lucid --make N\nThis word doesn't go with those before it: data.txt=a\nBefore `=` stands the name of an input, and behind it its file, without blanks: `a=data.txt`.\n",
     },
     Row {
         words: "p --at=3",
