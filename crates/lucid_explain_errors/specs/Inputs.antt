@@ -1,7 +1,8 @@
 -- Inputs whose bytes are there, and a line of one as it is told.
-use Rattle.std.specs.Prelude.{ℕ, nat_le, ◌==◌, ◌&&◌, ◌||◌, if◌then◌else◌, Bool, List, [], ◌∷◌, ◌++◌, length, map, take, find, codes, Option, Some, None, slice_get}
-use Rattle.std.specs.List.{list_any, slice_split}
-use Rattle.lucid_value.specs.Plain.{same_bytes, is_text, is_light}
+use Rattle.std.specs.Prelude.{ℕ, nat_le, not, ◌==◌, ◌&&◌, ◌||◌, if◌then◌else◌, Bool, List, [], ◌∷◌, ◌++◌, length, map, take, find, codes, Option, Some, None, slice_get}
+use Rattle.std.specs.List.{list_all, list_any, slice_split}
+use Rattle.std.specs.Char.{is_ascii_digit}
+use Rattle.lucid_value.specs.Plain.{same_bytes, is_word, is_text, is_light}
 use Rattle.lucid_explain_places.specs.Shown.{shown_byte}
 use Rattle.lucid_explain_source.specs.Characters.{begins}
 use Rattle.lucid_explain_errors.specs.declared.inputs.Input.{Input}
@@ -36,8 +37,35 @@ is_quotable line = nat_le (length line) 40 && (is_text line && is_light line)
 abbrev pub string_text : (line : List ℕ) → List ℕ
 string_text line = codes "As a string it is written `" ++ (line ++ codes "'.\n")
 
+abbrev pub string_if : (line : List ℕ) → List ℕ
+string_if line = if is_quotable line then string_text line else []
+
+-- a short word, or digits
+abbrev pub is_short_word : (inner : List ℕ) → Bool
+is_short_word inner = nat_le (length inner) 40 && (is_word inner && is_light inner)
+
+abbrev pub is_short_number : (inner : List ℕ) → Bool
+is_short_number inner = nat_le (length inner) 38 && not (length inner == 0) && list_all is_ascii_digit inner
+
+-- how they are written
+abbrev pub bare_text : (inner : List ℕ) → List ℕ
+bare_text inner = codes "It is written without quotes: " ++ (inner ++ codes "\n")
+
+-- what stands between quotation marks (34): as a word or an integer, or else as a string
+abbrev pub inner_text : (inner : List ℕ) → List ℕ
+inner_text inner = if is_short_word inner || is_short_number inner then bare_text inner else string_if inner
+
+abbrev pub inner_text_if : Option (List ℕ) → List ℕ
+inner_text_if None = []
+inner_text_if (Some inner) = inner_text inner
+
+-- what stands behind the first of them, up to the second or to the end
+abbrev pub inner_of : (line : List ℕ) → Option (List ℕ)
+inner_of line = slice_get (slice_split (λ b. b == 34) line) 1
+
+-- how a line is written that is no value: without quotation marks, where it begins with one; else as a string
 abbrev pub quoted_text : (line : List ℕ) → List ℕ
-quoted_text line = if is_quotable line then string_text line else []
+quoted_text line = if begins line (34 ∷ []) then inner_text_if (inner_of line) else string_if line
 
 -- a comma (44) or a semicolon (59)
 abbrev pub has_comma : (line : List ℕ) → Bool

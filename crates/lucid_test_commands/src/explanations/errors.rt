@@ -13,10 +13,10 @@ struct Row {
     text: &'static str,
 }
 
-// The nodes of the second and the fifth source are t, a, t, a, next, +, fby; those of the third 3, f(3), x, "b", *; of the fourth u, 1, atspace, 0, u, hd,
-// sby; of the ninth 3, 1, 2, if; of the tenth 1, 0, whenever; of the next 1, 2, 3, -, attime; of the fourteenth false, 3, or; of the next t, error, t, fby;
-// of the last three two operands, and then the operator.
-static ROWS: [Row; 21] = [
+// The nodes of the sources with `next a` are t, a, t, a, next, +, fby; those of the one with f 3, f(3), x, "b", *; of the one with u u, 1, atspace, 0, u,
+// hd, sby; of the `if` 3, 1, 2, if; of the one with `attime` 1, 2, 3, -, attime; of the one with `error fby t` t, error, t, fby; of the others what
+// the operator takes, and then the operator. The source a is one node.
+static ROWS: [Row; 24] = [
     Row {
         source: "length \"dog\"",
         certificate: "j 0 0 0 0 0 dog\nj 1 0 0 0 1 0 error\n",
@@ -106,6 +106,24 @@ static ROWS: [Row; 21] = [
         certificate: "j 0 0 0 0 0 error\n",
         input: Some("1;2\n"),
         text: "The value at time 0 is `error`.\na at time 0 is `error`.\np:1:1:\na\n^\nLine 1 of this input is no value, or it is `error` itself. A value is an integer, as -12, a word without quotes, as red, a string, as `two words', a list, as [% 1 2 %], `true` or `false`. Of an input x, `x whenever not iserror x` has the other lines, and `x whenever not iserror x and isint x` the integers.\nThe line is: 1;2\nAs a string it is written `1;2'.\nA line is one value: 1200 has no comma, there are no real numbers, and two columns stand in two files, or as lists, `[% 1 2 %]`.\n",
+    },
+    Row {
+        source: "a",
+        certificate: "j 0 0 0 0 0 error\n",
+        input: Some("\"dog\"\n"),
+        text: "The value at time 0 is `error`.\na at time 0 is `error`.\np:1:1:\na\n^\nLine 1 of this input is no value, or it is `error` itself. A value is an integer, as -12, a word without quotes, as red, a string, as `two words', a list, as [% 1 2 %], `true` or `false`. Of an input x, `x whenever not iserror x` has the other lines, and `x whenever not iserror x and isint x` the integers.\nThe line is: \"dog\"\nIt is written without quotes: dog\n",
+    },
+    Row {
+        source: "a",
+        certificate: "j 0 0 0 0 0 error\n",
+        input: Some("\"12\"\n"),
+        text: "The value at time 0 is `error`.\na at time 0 is `error`.\np:1:1:\na\n^\nLine 1 of this input is no value, or it is `error` itself. A value is an integer, as -12, a word without quotes, as red, a string, as `two words', a list, as [% 1 2 %], `true` or `false`. Of an input x, `x whenever not iserror x` has the other lines, and `x whenever not iserror x and isint x` the integers.\nThe line is: \"12\"\nIt is written without quotes: 12\n",
+    },
+    Row {
+        source: "a",
+        certificate: "j 0 0 0 0 0 error\n",
+        input: Some("\"two words\"\n"),
+        text: "The value at time 0 is `error`.\na at time 0 is `error`.\np:1:1:\na\n^\nLine 1 of this input is no value, or it is `error` itself. A value is an integer, as -12, a word without quotes, as red, a string, as `two words', a list, as [% 1 2 %], `true` or `false`. Of an input x, `x whenever not iserror x` has the other lines, and `x whenever not iserror x and isint x` the integers.\nThe line is: \"two words\"\nAs a string it is written `two words'.\n",
     },
     Row {
         source: "substr(`hello', 3, 6)",
