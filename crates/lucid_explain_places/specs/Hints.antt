@@ -1,6 +1,6 @@
 -- What was probably meant at a place where the tokens go wrong: by the tokens about it, and by those that may stand there. Of the hints the first
 -- that fits is said. Those marked `unfoldable` are so that proofs of the others see their names alone.
-use Rattle.std.specs.Prelude.{ℕ, List, [], ◌∷◌, length, map, take, Bool, true, false, not, ◌&&◌, ◌||◌, ◌==◌, codes, nat_eq, if◌then◌else◌, Option, None, Some}
+use Rattle.std.specs.Prelude.{ℕ, List, [], ◌∷◌, ◌++◌, length, map, take, Bool, true, false, not, ◌&&◌, ◌||◌, ◌==◌, codes, nat_eq, if◌then◌else◌, Option, None, Some}
 use Rattle.std.specs.List.{list_any, prefix_len, starts_with}
 use Rattle.std.specs.Char.{is_ascii_alphabetic, is_ascii_digit, to_ascii_lowercase}
 use Rattle.lucid_value.specs.Plain.{same_bytes}
@@ -265,8 +265,7 @@ closing_hint a those =
 
 abbrev pub end_hint : PlainAround → List Candidate → List ℕ
 end_hint a those =
-    if lacks_operand a.before those then codes "The word before this is an operator, behind which an expression stands. It is reserved: no name is spelled so.\n"
-    else if is_closing a.read then closing_hint a those
+    if is_closing a.read then closing_hint a those
     else lacking_hint a those
 
 -- behind the name of a definition
@@ -301,6 +300,20 @@ stands_between (Some operator) = is_between (row_of operator).form
 
 abbrev pub is_infix : List ℕ → Bool
 is_infix read = stands_between (spelled read)
+
+-- an operator that stands before what it takes, as `next` and `length`
+abbrev pub is_ahead : Option Form → Bool
+is_ahead None = false
+is_ahead (Some Between) = false
+is_ahead (Some Before) = true
+is_ahead (Some Called) = false
+
+abbrev pub stands_ahead : Option Operator → Bool
+stands_ahead None = false
+stands_ahead (Some operator) = is_ahead (row_of operator).form
+
+abbrev pub goes_ahead : List ℕ → Bool
+goes_ahead read = stands_ahead (spelled read)
 
 -- of the first token, or where there is none
 abbrev pub first_hint : (read : List ℕ) → List ℕ
@@ -481,3 +494,17 @@ abbrev pub hint : PlainAround → List Candidate → List ℕ
 hint a those =
     if is_capital a.before || is_capital a.read then codes "Reserved words are spelled in small letters, as `where` and `if`.\n"
     else token_hint a those
+
+-- what is said of the place itself, though an operator lacks what it takes
+abbrev pub is_apart : PlainAround → List Candidate → Bool
+is_apart a those = is_cut_off a || same_bytes a.read (codes "not") || is_remark a those
+
+-- The word before the place is an operator, and what it takes lacks. Where both that word and the token stand between two expressions, the token is told.
+unfoldable pub stands_bare : PlainAround → List Candidate → Bool
+stands_bare a those = lacks_operand a.before those && (goes_ahead a.before || not (is_infix a.read)) && not (is_apart a those)
+
+abbrev pub bare_text : (before : List ℕ) → List ℕ
+bare_text before = codes "`" ++ (before ++ codes "` before this is an operator, behind which an expression stands. It is reserved: no name is spelled so.\n")
+
+unfoldable pub hint_text : PlainAround → List Candidate → List ℕ
+hint_text a those = if stands_bare a those then bare_text a.before else hint a those

@@ -3,7 +3,7 @@ use Rattle.std.specs.Prelude.{ℕ, List, [], ◌++◌, length, take, map, min, c
 use Rattle.std.specs.List.{join_by}
 use Rattle.lucid_explain_places.specs.declared.candidates.Candidate.{Candidate}
 use Rattle.lucid_explain_places.specs.Around.{PlainAround}
-use Rattle.lucid_explain_places.specs.Hints.{hint}
+use Rattle.lucid_explain_places.specs.Hints.{hint_text}
 use Rattle.lucid_explain_places.specs.Shown.{shown_byte, place_text}
 
 -- at most so many bytes of it are shown
@@ -23,7 +23,7 @@ standing_line those =
 
 -- what stands there, which tokens may stand there, and what was probably meant
 abbrev pub around_text : PlainAround → List Candidate → List ℕ
-around_text a those = read_line a.read ++ (standing_line those ++ hint a those)
+around_text a those = read_line a.read ++ (standing_line those ++ hint_text a those)
 
 abbrev pub syntax_text : (file source : List ℕ) → (at : ℕ) → PlainAround → List Candidate → List ℕ
 syntax_text file source at a those = place_text file source at ++ around_text a those

@@ -2,7 +2,7 @@
 ghost use Rattle.std.specs.Prelude.{◌≡◌, ◌==◌, ℕ, ◌||◌, IfOk};
 ghost use Rattle.std.specs.Char.{is_ascii_alphabetic, is_ascii_digit};
 ghost use Rattle.lucid_explain_places.specs.Around.{plain_around};
-ghost use Rattle.lucid_explain_places.specs.Hints.{has, is_open, is_whole, is_closing, is_comparison, is_elif, is_step, is_part_word, lacks_operand, is_capital, begins_with, is_product, breaks_line, has_return, has_comment, is_swallowed, is_behind_parameter, open_hint, whole_hint, alone_hint, equals_hint, line_hint, is_argument, definition_hint, is_shift, is_prefix, ends_subject, is_postfix, is_values, is_ended, is_defining, is_second, is_asked, is_factor, missing_hint, part_hint, lacking_hint, is_inner, inner_hint, is_parted, is_listed, is_unopened, unopened_hint, last_hint, ending_hint, closing_hint, end_hint, head_hint, is_parameter, parameter_hint, is_between, is_infix, first_hint, is_remnant, is_cut, place_hint, is_previous, is_moment, foreign_hint, is_loop, are_next, is_joining, joining_hint, is_looping, spoken_hint, behind_hint, reads, is_behind_block, are_both, arrow_hint, pair_hint, continues, is_dashed, is_in_remark, is_remark, chains, is_astray, astray_hint, word_hint, operator_hint, is_frozen, frozen_hint, is_cut_off, token_hint, hint};
+ghost use Rattle.lucid_explain_places.specs.Hints.{has, is_open, is_whole, is_closing, is_comparison, is_elif, is_step, is_part_word, lacks_operand, is_capital, begins_with, is_product, breaks_line, has_return, has_comment, is_swallowed, is_behind_parameter, open_hint, whole_hint, alone_hint, equals_hint, line_hint, is_argument, definition_hint, is_shift, is_prefix, ends_subject, is_postfix, is_values, is_ended, is_defining, is_second, is_asked, is_factor, missing_hint, part_hint, lacking_hint, is_inner, inner_hint, is_parted, is_listed, is_unopened, unopened_hint, last_hint, ending_hint, closing_hint, end_hint, head_hint, is_parameter, parameter_hint, is_between, is_infix, is_ahead, goes_ahead, first_hint, is_remnant, is_cut, place_hint, is_previous, is_moment, foreign_hint, is_loop, are_next, is_joining, joining_hint, is_looping, spoken_hint, behind_hint, reads, is_behind_block, are_both, arrow_hint, pair_hint, continues, is_dashed, is_in_remark, is_remark, chains, is_astray, astray_hint, word_hint, operator_hint, is_frozen, frozen_hint, is_cut_off, token_hint, hint, is_apart, stands_bare};
 
 use crate::around::Around;
 use crate::candidates::Candidate;
@@ -501,13 +501,11 @@ fn closing_hint(around: &Around<'_>, those: &[Candidate]) -> &'static [u8]
     }
 }
 
-// A hint where an operand lacks, something ends, or a token lacks.
+// A hint where something ends, or a token lacks.
 fn end_hint(around: &Around<'_>, those: &[Candidate]) -> &'static [u8]
     ensures { result.now ≡ end_hint (plain_around around.now) those.now }
 {
-    if lacks_operand(around.before, those) {
-        b"The word before this is an operator, behind which an expression stands. It is reserved: no name is spelled so.\n"
-    } else if is_closing(around.read) {
+    if is_closing(around.read) {
         closing_hint(around, those)
     } else {
         lacking_hint(around, those)
@@ -568,6 +566,26 @@ fn is_infix(read: &[u8]) -> bool
 {
     match Operator::find(read) {
         Some(operator) => is_between(operator.row().form),
+        None => false,
+    }
+}
+
+// Whether an operator that is written so stands before what it takes.
+fn is_ahead(form: Option<Fixity>) -> bool
+    ensures { result ≡ is_ahead form }
+{
+    match form {
+        Some(Fixity::Before) => true,
+        Some(Fixity::Between) | Some(Fixity::Called) | None => false,
+    }
+}
+
+// Whether this is an operator that stands before what it takes.
+fn goes_ahead(read: &[u8]) -> bool
+    ensures { result ≡ goes_ahead read.now }
+{
+    match Operator::find(read) {
+        Some(operator) => is_ahead(operator.row().form),
         None => false,
     }
 }
@@ -920,4 +938,21 @@ pub(crate) fn hint(
         return Ok(b"Reserved words are spelled in small letters, as `where` and `if`.\n");
     }
     Ok(token_hint(around, those))
+}
+
+// Whether something is said of the place itself, though an operator lacks what it takes.
+fn is_apart(around: &Around<'_>, those: &[Candidate]) -> bool
+    ensures { result ≡ is_apart (plain_around around.now) those.now }
+{
+    is_cut_off(around) || around.read == b"not".as_slice() || is_remark(around, those)
+}
+
+/// Whether the word before the place is an operator, and what it takes lacks.
+#[tactic(auto, unfolding(crate::specs::Hints::stands_bare))]
+pub(crate) fn stands_bare(around: &Around<'_>, those: &[Candidate]) -> bool
+    ensures { result ≡ stands_bare (plain_around around.now) those.now }
+{
+    lacks_operand(around.before, those)
+        && (goes_ahead(around.before) || !is_infix(around.read))
+        && !is_apart(around, those)
 }

@@ -6,11 +6,12 @@ ghost use Rattle.lucid_scan.specs.Tokens.{Tokens};
 ghost use Rattle.lucid_explain_places.specs.declared.candidates.Candidate.{Candidate as Told};
 ghost use Rattle.lucid_explain_places.specs.Standing.{AreStanding};
 ghost use Rattle.lucid_explain_places.specs.Around.{plain_around, around_at};
+ghost use Rattle.lucid_explain_places.specs.Hints.{bare_text, hint_text};
 ghost use Rattle.lucid_explain_places.specs.Syntax.{read_line, told_of, standing_line, around_text, syntax_text};
 
 use crate::around::{Around, around_at};
 use crate::candidates::{Candidate, standing};
-use crate::hints::hint;
+use crate::hints::{hint, stands_bare};
 use crate::shown::{put_place, put_shown};
 use lucid_scan::Token;
 use std::alloc::{AllocError, Global};
@@ -55,6 +56,33 @@ fn put_standing(text: &mut Vec<u8>, those: &[Candidate]) -> Result<(), AllocErro
     text.extend_from_slice(b".\n")
 }
 
+// Appends that the word before the place is an operator, and what it takes lacks.
+fn put_bare(text: &mut Vec<u8>, before: &[u8]) -> Result<(), AllocError>
+    ensures { OnOk result (text.new.items ≡ text.old.items ++ bare_text before.now) }
+{
+    text.extend_from_slice(b"`")?;
+    text.extend_from_slice(before)?;
+    text.extend_from_slice(
+        b"` before this is an operator, behind which an expression stands. It is reserved: no name is spelled so.\n",
+    )
+}
+
+// Appends what was probably meant.
+#[tactic(auto, unfolding(crate::specs::Hints::hint_text))]
+fn put_hint(
+    alloc: Global,
+    text: &mut Vec<u8>,
+    around: &Around<'_>,
+    those: &[Candidate],
+) -> Result<(), AllocError>
+    ensures { OnOk result (text.new.items ≡ text.old.items ++ hint_text (plain_around around.now) those.now) }
+{
+    if stands_bare(around, those) {
+        return put_bare(text, around.before);
+    }
+    text.extend_from_slice(hint(alloc, around, those)?)
+}
+
 // Appends what is said of a place about which this stands, and at which those may stand.
 fn put_around(
     alloc: Global,
@@ -66,7 +94,7 @@ fn put_around(
 {
     put_read(text, around.read)?;
     put_standing(text, those)?;
-    text.extend_from_slice(hint(alloc, around, those)?)
+    put_hint(alloc, text, around, those)
 }
 
 /// What is said of the tokens of a source that go wrong at the place: what stands there; some of the tokens that may stand there, at most six,

@@ -12,7 +12,7 @@ struct Ends {
 }
 
 // Tokens that go wrong, with the hint that ends the report.
-static HINTS: [Ends; 40] = [
+static HINTS: [Ends; 44] = [
     Ends {
         source: b"n = 0 fby n + 1;",
         begin: "syntax at 2\n",
@@ -121,7 +121,27 @@ static HINTS: [Ends; 40] = [
     Ends {
         source: b"length where length = 3; end",
         begin: "syntax at 7\n",
-        end: ".\nThe word before this is an operator, behind which an expression stands. It is reserved: no name is spelled so.\n",
+        end: ".\n`length` before this is an operator, behind which an expression stands. It is reserved: no name is spelled so.\n",
+    },
+    Ends {
+        source: b"a where a = length * 2; end",
+        begin: "syntax at 19\n",
+        end: ".\n`length` before this is an operator, behind which an expression stands. It is reserved: no name is spelled so.\n",
+    },
+    Ends {
+        source: b"a where a = length + 2; end",
+        begin: "syntax at 19\n",
+        end: ".\n`length` before this is an operator, behind which an expression stands. It is reserved: no name is spelled so.\n",
+    },
+    Ends {
+        source: b"n where n = first fby n + 1; end",
+        begin: "syntax at 18\n",
+        end: ".\n`first` before this is an operator, behind which an expression stands. It is reserved: no name is spelled so.\n",
+    },
+    Ends {
+        source: b"n where n = 0 fby; end",
+        begin: "syntax at 17\n",
+        end: ".\n`fby` before this is an operator, behind which an expression stands. It is reserved: no name is spelled so.\n",
     },
     Ends {
         source: b"1 where n = 1; end;",
