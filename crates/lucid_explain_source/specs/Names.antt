@@ -3,6 +3,7 @@ use Rattle.std.specs.Prelude.{ℕ, ◌-◌, List, [], ◌∷◌, ◌++◌, lengt
 use Rattle.std.specs.List.{filter, list_any, prefix_len}
 use Rattle.lucid_value.specs.Plain.{same_bytes}
 use Rattle.lucid_value.specs.Names.{is_name_byte}
+use Rattle.lucid_value.specs.Reading.{is_blank}
 use Rattle.lucid_tree.specs.Tree.{PlainTree}
 use Rattle.lucid_tree.specs.declared.tree.Def.{Def}
 use Rattle.lucid_tree.specs.declared.tree.DefKind.{DefKind}
@@ -13,6 +14,7 @@ use Rattle.lucid_explain_source.specs.declared.names.Wanted.{Wanted}
 use Rattle.lucid_explain_source.specs.declared.names.Wanted.TheVariants as wanted
 use Rattle.lucid_explain_places.specs.Hints.{is_capital}
 use Rattle.lucid_explain_places.specs.Shown.{place_text}
+use Rattle.lucid_explain_source.specs.Characters.{begins}
 use Rattle.lucid_explain_source.specs.Definitions.{definition_text}
 use Rattle.lucid_explain_source.specs.Scopes.{is_headed, in_scope}
 
@@ -106,6 +108,14 @@ not_function_advice = codes "What this name stands for here has no parameters: w
 abbrev pub is_function_advice : List ℕ
 is_function_advice = codes "This is a function: its arguments stand behind it in parentheses. A function is no value: it can't be an argument itself.\n"
 
+-- where the name of a function stands before a `,` or a `)`
+abbrev pub handed_advice : List ℕ
+handed_advice = codes "A function can't be an argument: write the calls out, as `square(square(n))`. Where its value is meant, its own arguments stand behind it in parentheses.\n"
+
+-- where what is called may be a parameter
+abbrev pub called_parameter_advice : List ℕ
+called_parameter_advice = codes "What this name stands for here has no parameters. A parameter is a stream, and a function can't be handed over: call one by its own name, as `square(square(n))`. The value of n at time 3 is `n attime 3`, and a product is written with `*`, as in `n * (n + 1)`.\n"
+
 abbrev pub arity_advice : List ℕ
 arity_advice = codes "A call has as many arguments as the function has parameters.\n"
 
@@ -156,14 +166,31 @@ no_function_text source defs at = advised_text source defs at (called_advice (na
 -- What is said of a call of what is no function: the definition of the name, but where the name may be a parameter.
 abbrev pub not_function_text : (source : List ℕ) → List Def → (at : ℕ) → List ℕ
 not_function_text source defs at =
-    if is_parameter (name_at source at) defs then not_function_advice else advised_text source defs at not_function_advice wanted.Plainly 1
+    if is_parameter (name_at source at) defs then called_parameter_advice else advised_text source defs at not_function_advice wanted.Plainly 1
+
+-- what stands behind a name with which the rest of a source begins, and behind blanks
+abbrev pub past_name : (rest : List ℕ) → List ℕ
+past_name rest = drop (prefix_len is_name_byte rest) rest
+
+abbrev pub past_blanks : (rest : List ℕ) → List ℕ
+past_blanks rest = drop (prefix_len is_blank rest) rest
+
+-- The rest of a source begins with a name, and behind that stands a `,` (44) or a `)` (41): so the name may be an argument.
+abbrev pub is_handed : (rest : List ℕ) → Bool
+is_handed rest = begins (past_blanks (past_name rest)) (44 ∷ []) || begins (past_blanks (past_name rest)) (41 ∷ [])
+
+-- what is said of the name of a function without arguments
+abbrev pub is_function_text : (source : List ℕ) → List Def → (at : ℕ) → List ℕ
+is_function_text source defs at =
+    if is_handed (drop (min (length source) at) source) then advised_text source defs at handed_advice wanted.Named 1
+    else advised_text source defs at is_function_advice wanted.Named 1
 
 -- what is said of a refusal, by the definitions in scope at its place
 abbrev pub said_text : (source : List ℕ) → List Def → ScopeRefusal → List ℕ
 said_text source defs (refusal.Twice at) = twice_text source defs at
 said_text source defs (refusal.NoFunction at) = no_function_text source defs at
 said_text source defs (refusal.NotFunction at) = not_function_text source defs at
-said_text source defs (refusal.IsFunction at) = advised_text source defs at is_function_advice wanted.Named 1
+said_text source defs (refusal.IsFunction at) = is_function_text source defs at
 said_text source defs (refusal.Arity at _ _) = advised_text source defs at arity_advice wanted.Named 1
 said_text source defs refusal.NoMemory = []
 

@@ -4,17 +4,19 @@ ghost use Rattle.std.specs.Option.{option_copied};
 ghost use Rattle.std.specs.List.{list_any, prefix_len};
 ghost use Rattle.lucid_value.specs.Plain.{same_bytes};
 ghost use Rattle.lucid_value.specs.Names.{is_name_byte};
+ghost use Rattle.lucid_value.specs.Reading.{is_blank};
 ghost use Rattle.lucid_tree.specs.declared.tree.Def.{Def as PlainDef};
 ghost use Rattle.lucid_scan.specs.Refusals.{most_source_bytes};
-ghost use Rattle.lucid_explain_source.specs.Names.{name_front, name_at, is_function, is_plain, fits, told_text, advised_text, heads, is_before, headed, has_parameter, is_parameter, twice_advice, parameter_advice, found_text, again_text, twice_text, is_printing, is_length, made_advice, foreign_advice, called_advice, no_function_text, not_function_text, refusal_at, said_text, names_text};
+ghost use Rattle.lucid_explain_source.specs.Names.{name_front, name_at, is_function, is_plain, fits, told_text, advised_text, heads, is_before, headed, has_parameter, is_parameter, twice_advice, parameter_advice, found_text, again_text, twice_text, is_printing, is_length, made_advice, foreign_advice, called_advice, no_function_text, not_function_text, past_name, past_blanks, is_handed, is_function_text, refusal_at, said_text, names_text};
 ghost use Rattle.lucid_explain_source.specs.Scopes.{lent};
 
+use crate::characters::begins;
 use crate::definitions::put_definition;
 use crate::scopes::{find_in_scope, is_headed};
 use lucid_explain_places::{is_capital, put_place};
 use lucid_scope::ScopeRefusal;
 use lucid_tree::{Def, DefKind, Tree};
-use lucid_value::{Name, is_name_byte};
+use lucid_value::{Name, is_blank, is_name_byte};
 use std::alloc::{AllocError, Global};
 
 /// The most definitions that are told.
@@ -24,6 +26,9 @@ const PARAMETER: &[u8] = b"A list of parameters has each name once.\n";
 
 const NOT_FUNCTION: &[u8] =
     b"What this name stands for here has no parameters: write it without arguments. The value of n at time 3 is `n attime 3`, and a product is written with `*`, as in `n * (n + 1)`.\n";
+
+const CALLED_PARAMETER: &[u8] =
+    b"What this name stands for here has no parameters. A parameter is a stream, and a function can't be handed over: call one by its own name, as `square(square(n))`. The value of n at time 3 is `n attime 3`, and a product is written with `*`, as in `n * (n + 1)`.\n";
 
 /// Which definitions are told.
 #[derive(Clone, Copy)]
@@ -54,6 +59,12 @@ const NO_PARAMETERS: Advice = Advice {
 
 const IS_FUNCTION: Advice = Advice {
     says: b"This is a function: its arguments stand behind it in parentheses. A function is no value: it can't be an argument itself.\n",
+    wanted: Wanted::Named,
+    most: 1,
+};
+
+const HANDED: Advice = Advice {
+    says: b"A function can't be an argument: write the calls out, as `square(square(n))`. Where its value is meant, its own arguments stand behind it in parentheses.\n",
     wanted: Wanted::Named,
     most: 1,
 };
@@ -417,9 +428,56 @@ fn put_not_function(
     ensures { OnOk result (text.new.items ≡ text.old.items ++ not_function_text source.now (lent defs.now) at) }
 {
     if is_parameter(defs, name_at(source, at)) {
-        text.extend_from_slice(NOT_FUNCTION)
+        text.extend_from_slice(CALLED_PARAMETER)
     } else {
         put_advised(text, source, defs, at, &NO_PARAMETERS)
+    }
+}
+
+// What stands behind a name with which the rest of a source begins.
+fn past_name(rest: &[u8]) -> &[u8]
+    ensures { result.now ≡ past_name rest.entry.now }
+{
+    &rest[len_of_name(rest)..]
+}
+
+// How many blanks stand at the beginning.
+fn len_of_blanks(rest: &[u8]) -> usize
+    ensures value { result ≡ prefix_len is_blank rest.now }
+    ensures within { result ≤ length rest.now }
+{
+    rest.iter().take_while(|byte| is_blank(**byte)).count()
+}
+
+// What stands behind those.
+fn past_blanks(rest: &[u8]) -> &[u8]
+    ensures { result.now ≡ past_blanks rest.entry.now }
+{
+    &rest[len_of_blanks(rest)..]
+}
+
+// Whether the name with which the rest of a source begins may be an argument.
+fn is_handed(rest: &[u8]) -> bool
+    ensures { result ≡ is_handed rest.now }
+{
+    let behind = past_blanks(past_name(rest));
+    begins(behind, b",") || begins(behind, b")")
+}
+
+// Appends what is said of the name of a function without arguments.
+fn put_is_function(
+    text: &mut Vec<u8>,
+    source: &[u8],
+    defs: &[&Def],
+    at: u32,
+) -> Result<(), AllocError>
+    requires { length source.now ≤ most_source_bytes }
+    ensures { OnOk result (text.new.items ≡ text.old.items ++ is_function_text source.now (lent defs.now) at) }
+{
+    if is_handed(&source[source.len().min(at as usize)..]) {
+        put_advised(text, source, defs, at, &HANDED)
+    } else {
+        put_advised(text, source, defs, at, &IS_FUNCTION)
     }
 }
 
@@ -438,7 +496,7 @@ fn put_said(
         ScopeRefusal::Twice { at } => put_twice(alloc, text, source, defs, *at),
         ScopeRefusal::NoFunction { at } => put_no_function(alloc, text, source, defs, *at),
         ScopeRefusal::NotFunction { at } => put_not_function(text, source, defs, *at),
-        ScopeRefusal::IsFunction { at } => put_advised(text, source, defs, *at, &IS_FUNCTION),
+        ScopeRefusal::IsFunction { at } => put_is_function(text, source, defs, *at),
         ScopeRefusal::Arity { at, .. } => put_advised(text, source, defs, *at, &ARITY),
         ScopeRefusal::NoMemory => Ok(()),
     }

@@ -124,7 +124,7 @@ static TOKENS: [Row; 7] = [
 ];
 
 // Names that are at fault.
-static NAMES: [Row; 16] = [
+static NAMES: [Row; 18] = [
     Row {
         words: "p",
         source: "x where x = 1; x = 2; end",
@@ -147,7 +147,7 @@ static NAMES: [Row; 16] = [
         words: "p",
         source: "g(1) where g(f) = f(2); f = 3; end",
         status: Status::Refused,
-        report: "not a function at 18\np:1:19:\ng(1) where g(f) = f(2); f = 3; end\n                  ^\nWhat this name stands for here has no parameters: write it without arguments. The value of n at time 3 is `n attime 3`, and a product is written with `*`, as in `n * (n + 1)`.\n",
+        report: "not a function at 18\np:1:19:\ng(1) where g(f) = f(2); f = 3; end\n                  ^\nWhat this name stands for here has no parameters. A parameter is a stream, and a function can't be handed over: call one by its own name, as `square(square(n))`. The value of n at time 3 is `n attime 3`, and a product is written with `*`, as in `n * (n + 1)`.\n",
     },
     Row {
         words: "p",
@@ -172,6 +172,18 @@ static NAMES: [Row; 16] = [
         source: "x(4) where x = 2; end",
         status: Status::Refused,
         report: "not a function at 0\np:1:1:\nx(4) where x = 2; end\n^\nWhat this name stands for here has no parameters: write it without arguments. The value of n at time 3 is `n attime 3`, and a product is written with `*`, as in `n * (n + 1)`.\nx is defined in line 1, column 12.\n",
+    },
+    Row {
+        words: "p",
+        source: "t(f, 2) where t(g, x) = x; f(x) = x; end",
+        status: Status::Refused,
+        report: "function without arguments at 2\np:1:3:\nt(f, 2) where t(g, x) = x; f(x) = x; end\n  ^\nA function can't be an argument: write the calls out, as `square(square(n))`. Where its value is meant, its own arguments stand behind it in parentheses.\nf(x) is defined in line 1, column 28.\n",
+    },
+    Row {
+        words: "p",
+        source: "t(2, f ) where t(x, g) = x; f(x) = x; end",
+        status: Status::Refused,
+        report: "function without arguments at 5\np:1:6:\nt(2, f ) where t(x, g) = x; f(x) = x; end\n     ^\nA function can't be an argument: write the calls out, as `square(square(n))`. Where its value is meant, its own arguments stand behind it in parentheses.\nf(x) is defined in line 1, column 29.\n",
     },
     Row {
         words: "p",
