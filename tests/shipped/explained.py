@@ -170,6 +170,7 @@ def a_run_of_20_lines_may_have_more(run):
 
 LIST = "[% n m %] where m = n * n; n = 0 fby n + 1; end"
 SUM = "s where s = x fby s + x; x = 1 fby x + 2; end"
+FROZEN = "c asa i eq 2 where k is current n; i = 0 fby i + 1; c = n fby c * 2; end where n = 1 fby n + 1; end"
 BLOCK = "f where f = r asa c eq 0 where c = n fby c - 1; r = 1 fby r * c; end; n = 3 fby n + 1; end"
 
 # Sources, what two lines of each are, where something is noted of it, and what that is.
@@ -186,6 +187,12 @@ NOTED = [
         lines(6, 6),
         15,
         "`asa` gives one value for all times. A block that is to begin anew at each time has `k is current n;`, and then k in place of n.\n",
+    ),
+    (
+        FROZEN,
+        lines(4, 4),
+        57,
+        "Here the name goes on with the time of the block, where k is its value at the time outside: is k meant?\n",
     ),
 ]
 
@@ -206,6 +213,8 @@ def what_is_meant_is_not_noted(run):
     run.explaining().lucid("p", "--count=2").must(lines(1, 4), 0, "")
     run.source(BLOCK.replace("c = n", "k is current n; c = k"))
     run.explaining().lucid("p", "--count=2").must(lines(6, 24), 0, "")
+    run.source(FROZEN.replace("c = n", "c = k"))
+    run.explaining().lucid("p", "--count=2").must(lines(4, 8), 0, "")
 
 
 @case

@@ -1,5 +1,6 @@
--- What is noted of a source that runs, by its tokens alone: a list of constants with a name in it, a sum that lags behind, and an inner block that begins
--- once. Each is right, and means what it says; a beginner mostly means something else. Of more than 4096 bytes nothing is noted.
+-- What is noted of a source that runs, by its tokens alone: a list of constants with a name in it, a sum that lags behind, an inner block that begins
+-- once, and in a block the name whose value it freezes. Each is right, and means what it says; a beginner mostly means something else. Of more than 4096
+-- bytes nothing is noted.
 use Rattle.std.specs.Prelude.{◌≡◌, ◌≢◌, ℕ, ◌<◌, ◌≤◌, Bool, true, false, ◌&&◌, ◌||◌, not, ◌==◌, List, [], ◌∷◌, ◌++◌, length, take, drop, min, codes, find, Option, Some, None, if◌then◌else◌}
 use Rattle.std.specs.Option.{option_or}
 use Rattle.std.specs.List.{list_any, prefix_len, slice_get, slice_split}
@@ -151,13 +152,40 @@ outer_behind source ts = outer_of_part source (drop (len_of_part source ts) ts)
 abbrev pub loop_at : (source : List ℕ) → (all : List Token) → List Token → Option Token
 loop_at source all ts = if has_word source (codes "current") all then None else outer_behind source (behind 1 ts)
 
+-- The tokens begin with `K is current X;`, where K and X are names: so K has the number 0, and X the number 3.
+abbrev pub is_freeze : (source : List ℕ) → List Token → Bool
+is_freeze source ts =
+    is_name (token_at ts 0).kind && is_spelt source (codes "is") (token_at ts 1) && is_spelt source (codes "current") (token_at ts 2)
+    && is_name (token_at ts 3).kind && is_spelt source (codes ";") (token_at ts 4)
+
+-- the X of a definition `N = X fby ..` with which the tokens begin, where it is this name
+abbrev pub used_at : (source : List ℕ) → (name : Token) → List Token → Option Token
+used_at source name ts = if is_start source ts && is_spelt source (text_in source name) (token_at ts 2) then Some (token_at ts 2) else None
+
+abbrev pub first_used : (source : List ℕ) → (name : Token) → (block : List Token) → Option Token
+first_used source name block = first_end (used_at source name) block
+
+-- the tokens of a block, up to its end or to an inner one
+abbrev pub block_part : (source : List ℕ) → List Token → List Token
+block_part source ts = take (len_of_block source ts) ts
+
+-- the note of a K, at the X
+abbrev pub frozen_at : Option Token → (name : Token) → Option Note
+frozen_at None name = None
+frozen_at (Some at) name = Some (record { subject = subject.Frozen; at = at; name = name })
+
+-- Behind `K is current X;` a definition of the block begins with the first value of X, which isn't that of the time outside.
+abbrev pub frozen_note : (source : List ℕ) → List Token → Option Note
+frozen_note source ts =
+    if is_freeze source ts then frozen_at (first_used source (token_at ts 3) (block_part source (behind 5 ts))) (token_at ts 0) else None
+
 -- what is noted where these tokens begin, of those that the source has
 abbrev pub note_at : (source : List ℕ) → (all : List Token) → List Token → Option Note
 note_at source all ts =
     if is_list (token_at ts 0).kind then note_of subject.Constants (token_at ts 0) (find (is_item source (token_at ts 0)) all)
     else if is_spelt source (codes "asa") (token_at ts 0) then note_of subject.Block (token_at ts 0) (loop_at source all ts)
     else if is_sum source all ts then note_of subject.Sum (token_at ts 0) (Some (token_at ts 2))
-    else None
+    else frozen_note source ts
 
 -- the first of all
 abbrev pub first_note : (source : List ℕ) → (all : List Token) → Option Note
@@ -171,6 +199,8 @@ said_of subject.Sum name =
     codes "Behind `fby` stands the value for the next time, made of values of this time. If " ++ (name ++ (codes " of that next time is meant, write `next " ++ (name ++ codes "` there.\n")))
 said_of subject.Block name =
     codes "`asa` gives one value for all times. A block that is to begin anew at each time has `k is current " ++ (name ++ (codes ";`, and then k in place of " ++ (name ++ codes ".\n")))
+said_of subject.Frozen name =
+    codes "Here the name goes on with the time of the block, where " ++ (name ++ (codes " is its value at the time outside: is " ++ (name ++ codes " meant?\n")))
 
 abbrev pub said_text : (file source : List ℕ) → Note → List ℕ
 said_text file source n = place_text file source (min (length source) n.at.from) ++ said_of n.subject (text_in source n.name)

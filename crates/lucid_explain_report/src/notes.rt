@@ -5,7 +5,7 @@ ghost use Rattle.lucid_value.specs.Plain.{same_bytes};
 ghost use Rattle.lucid_scan.specs.Refusals.{Refuses, most_source_bytes};
 ghost use Rattle.lucid_words.specs.Asked.{plain_words};
 ghost use Rattle.lucid_explain_report.specs.Said.{name_in};
-ghost use Rattle.lucid_explain_report.specs.Notes.{most_noted, behind, text_in, is_spelt, is_name, is_list, token_at, parts_items, has_item, is_item, note_of, has_word, is_start, is_moving, is_picking, is_timed, is_breaking, len_of_part, part, lags, is_sum, heads, any_end, outer_at, first_outer, bounds_block, len_of_block, outer_in, outer_of_part, outer_behind, loop_at, note_at, first_note, said_of, said_text, note_text, TellsNote};
+ghost use Rattle.lucid_explain_report.specs.Notes.{most_noted, behind, text_in, is_spelt, is_name, is_list, token_at, parts_items, has_item, is_item, note_of, has_word, is_start, is_moving, is_picking, is_timed, is_breaking, len_of_part, part, lags, is_sum, heads, any_end, outer_at, first_outer, bounds_block, len_of_block, outer_in, outer_of_part, outer_behind, loop_at, is_freeze, used_at, first_used, block_part, frozen_at, frozen_note, note_at, first_note, said_of, said_text, note_text, TellsNote};
 
 use crate::explaining::name_of;
 use lucid_explain_places::put_place;
@@ -26,6 +26,8 @@ pub(crate) enum Subject {
     Sum,
     /// A block that begins once.
     Block,
+    /// A name whose value the block freezes.
+    Frozen,
 }
 
 /// A note: the token at which it is shown, and the name of which it speaks.
@@ -342,6 +344,77 @@ fn loop_at(source: &[u8], all: &[Token], tokens: &[Token]) -> Option<Token>
     }
 }
 
+// Whether the tokens begin with `K is current X;`, where K and X are names.
+fn is_freeze(source: &[u8], tokens: &[Token]) -> bool
+    ensures { result ≡ is_freeze source.now tokens.now }
+{
+    is_name(token_at(tokens, 0).kind)
+        && is_spelt(source, b"is", &token_at(tokens, 1))
+        && is_spelt(source, b"current", &token_at(tokens, 2))
+        && is_name(token_at(tokens, 3).kind)
+        && is_spelt(source, b";", &token_at(tokens, 4))
+}
+
+// The X of a definition `N = X fby ..` with which the tokens begin, where it is this name.
+fn used_at(source: &[u8], name: &Token, tokens: &[Token]) -> Option<Token>
+    ensures { result ≡ used_at source.now name.now tokens.now }
+{
+    let first = token_at(tokens, 2);
+    if is_start(source, tokens) && is_spelt(source, text_in(source, name), &first) {
+        Some(first)
+    } else {
+        None
+    }
+}
+
+// The first such X.
+fn first_used(source: &[u8], name: &Token, block: &[Token]) -> Option<Token>
+    ensures { result ≡ first_used source.now name.now block.now }
+{
+    let mut rest = block;
+    while let Some((_, others)) = rest.split_first() {
+        if let Some(used) = used_at(source, name, rest) {
+            return Some(used);
+        }
+        rest = others;
+    }
+    None
+}
+
+// The tokens of a block, up to its end or to an inner one.
+fn block_part<'a>(source: &[u8], tokens: &'a [Token]) -> &'a [Token]
+    ensures { result.now ≡ block_part source.now tokens.entry.now }
+{
+    &tokens[..len_of_block(source, tokens)]
+}
+
+// The note of a K, at the X, if there is one.
+fn frozen_at(at: Option<Token>, name: Token) -> Option<Note>
+    ensures { result ≡ frozen_at at name }
+{
+    match at {
+        Some(at) => Some(Note {
+            subject: Subject::Frozen,
+            at,
+            name,
+        }),
+        None => None,
+    }
+}
+
+// The note of a block that freezes a value of a name, and begins a definition with the first value of that name.
+fn frozen_note(source: &[u8], tokens: &[Token]) -> Option<Note>
+    ensures { result ≡ frozen_note source.now tokens.now }
+{
+    if is_freeze(source, tokens) {
+        let block = block_part(source, behind(5, tokens));
+        let used = first_used(source, &token_at(tokens, 3), block);
+        frozen_at(used, token_at(tokens, 0))
+    } else {
+        None
+    }
+}
+
 // What is noted where these tokens begin, of all that the source has.
 fn note_at(source: &[u8], all: &[Token], tokens: &[Token]) -> Option<Note>
     ensures { result ≡ note_at source.now all.now tokens.now }
@@ -354,7 +427,7 @@ fn note_at(source: &[u8], all: &[Token], tokens: &[Token]) -> Option<Note>
     } else if is_sum(source, all, tokens) {
         note_of(Subject::Sum, at, Some(token_at(tokens, 2)))
     } else {
-        None
+        frozen_note(source, tokens)
     }
 }
 
@@ -415,6 +488,13 @@ fn put_said(text: &mut Vec<u8>, subject: Subject, name: &[u8]) -> Result<(), All
             b";`, and then k in place of ",
             b".\n",
         ),
+        Subject::Frozen => put_twice(
+            text,
+            b"Here the name goes on with the time of the block, where ",
+            name,
+            b" is its value at the time outside: is ",
+            b" meant?\n",
+        ),
     }
 }
 
@@ -473,7 +553,7 @@ fn text_of_short(alloc: Global, file: &[u8], source: &[u8]) -> Result<Vec<u8>, A
 }
 
 /// What is noted of a source that runs, which a call with these words read: a list of constants with a word in it that is spelt as a name, a sum that lags
-/// behind, or a block that begins once. The first of all is said, and nothing of more than 4096 bytes.
+/// behind, a block that begins once, or in a block the name whose value it freezes. The first of all is said, and nothing of more than 4096 bytes.
 pub fn explain_note(alloc: Global, asked: &Words, source: &[u8]) -> Result<Vec<u8>, AllocError>
     ensures { IfOk result (λ text. TellsNote (name_in (plain_words asked.now).source) source.now text.items) }
 {

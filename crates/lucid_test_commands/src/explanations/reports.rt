@@ -550,7 +550,7 @@ static DONE: [Row; 10] = [
 ];
 
 // Runs of whose source something is noted, and their neighbours, of which nothing is.
-static NOTED: [Row; 12] = [
+static NOTED: [Row; 13] = [
     Row {
         words: "--count 2 p",
         source: "[% n m %] where m = n * n; n = 0 fby n + 1; end",
@@ -610,6 +610,12 @@ static NOTED: [Row; 12] = [
         source: "f where f = r asa c eq 0 where c = n fby c - 1; r = 1 fby r * c; end; n = 3 fby n + 1; end",
         status: Status::Done,
         report: "p:1:15:\nf where f = r asa c eq 0 where c = n fby c - 1; r = 1 fby r * c; end; n = 3 fby n + 1; end\n              ^\n`asa` gives one value for all times. A block that is to begin anew at each time has `k is current n;`, and then k in place of n.\n",
+    },
+    Row {
+        words: "--count 2 p",
+        source: "c asa i eq 2 where k is current n; i = 0 fby i + 1; c = n fby c * 2; end where n = 1 fby n + 1; end",
+        status: Status::Done,
+        report: "p:1:57:\nc asa i eq 2 where k is current n; i = 0 fby i + 1; c = n fby c * 2; end where n = 1 fby n + 1; end\n                                                        ^\nHere the name goes on with the time of the block, where k is its value at the time outside: is k meant?\n",
     },
     Row {
         words: "--count 2 p",
