@@ -22,6 +22,7 @@ use Rattle.lucid_explain_report.specs.declared.causes.Cause.{Cause}
 use Rattle.lucid_explain_report.specs.declared.causes.Cause.TheVariants as cause
 use Rattle.lucid_explain_report.specs.Files.{Files, Held, holds, unread, gone, is_unread, IsSeen}
 use Rattle.lucid_explain_report.specs.Stops.{stop_text}
+use Rattle.lucid_explain_report.specs.Notes.{TellsNote}
 use Rattle.lucid_explain_report.specs.Causes.{cause_of}
 
 -- one byte more than a source may have
@@ -125,15 +126,17 @@ TellsPiece name source unread number alone text = text ≡ alone
 TellsPiece name source gone number alone text = text ≡ alone
 
 -- The text says that of the source of this name: its fault; its inputs without a file; all its inputs; the names that may be columns; a place; what
--- `--cycles` says of it, and what that means for a time; which piece has a judgment. Or it tells the files that can't be read now; or nothing more. Before
--- all inputs, behind a place, a depth and a judgment, and alone, stands what is said of the stop alone.
+-- `--cycles` says of it, and what that means for a time, with what is noted of it; which piece has a judgment. Or it tells the files that can't be read now;
+-- or nothing more. Before all inputs, behind a place, a depth and a judgment, and alone, stands what is said of the stop alone.
 abbrev pub SaysBy : Cause → Files → PlainWords → (name source : List ℕ) → Stop → (text : List ℕ) → Type 0
 SaysBy (cause.Source fault) files asked name source why text = TellsFault fault name source (stop_text why) text
 SaysBy cause.Inputs files asked name source why text = TellsInputs source (names_given asked.given) text
 SaysBy cause.Free files asked name source why text = (said : List ℕ) × TellsFree source said × (text ≡ stop_text why ++ said)
 SaysBy cause.Columns files asked name source why text = TellsColumns source text
 SaysBy (cause.Place at) files asked name source why text = text ≡ place_said name source at ++ stop_text why
-SaysBy (cause.Depth time) files asked name source why text = (said : List ℕ) × TellsDepth source asked.depth time said × (text ≡ said ++ stop_text why)
+SaysBy (cause.Depth time) files asked name source why text =
+    (said : List ℕ) × (note : List ℕ) × TellsDepth source asked.depth time said × TellsNote name source note
+    × (text ≡ said ++ (stop_text why ++ note))
 SaysBy (cause.Judgment number) files asked name source why text =
     (seen : Held) × IsSeen files asked.check past_certificate seen × TellsPiece name source seen number (stop_text why) text
 SaysBy cause.Files files asked name source why text = SaysFiles files asked text

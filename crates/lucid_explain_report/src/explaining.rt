@@ -4,11 +4,13 @@ ghost use Rattle.std.specs.String.{string_bytes};
 ghost use Rattle.lucid_words.specs.Asked.{plain_words};
 ghost use Rattle.lucid_words.specs.Plain.{plain_source};
 ghost use Rattle.lucid_explain_report.specs.Causes.{cause_of};
+ghost use Rattle.lucid_explain_report.specs.Notes.{TellsNote};
 ghost use Rattle.lucid_explain_report.specs.Said.{name_in, SaysBy, Says, IsExplanation};
 
 use crate::causes::{Cause, cause_of};
 use crate::faults::text_of_faults;
 use crate::judgments::text_of_judgment;
+use crate::notes::text_of_notes;
 use crate::outlook::Outlook;
 use crate::sources::{
     Stopped, text_of_fault, text_of_free, text_of_inputs, text_of_place, text_of_time,
@@ -20,8 +22,8 @@ use lucid_report::Stop;
 use lucid_words::{Source, Words, WordsRefusal, read_words};
 use std::alloc::{AllocError, Global};
 
-/// The name of the source's file; a made program has none.
-pub(crate) fn name_of(source: &Source) -> &[u8]
+// The name of the source's file; a made program has none.
+fn name_of(source: &Source) -> &[u8]
     ensures { result.now ≡ name_in (plain_source source.now) }
 {
     match source {
@@ -88,4 +90,12 @@ pub fn explain_stop<F: Outlook>(
         Err(WordsRefusal::Usage) => text_of_words(alloc, words),
         Err(WordsRefusal::NoMemory) => Err(AllocError),
     }
+}
+
+/// What is noted of a source that a call with these words read: a list of constants with a word in it that is spelt as a name, a sum that lags behind, a
+/// block that begins once, or in a block the name whose value it freezes. The first of all is said, and nothing of more than 4096 bytes.
+pub fn explain_note(alloc: Global, asked: &Words, source: &[u8]) -> Result<Vec<u8>, AllocError>
+    ensures { IfOk result (λ text. TellsNote (name_in (plain_words asked.now).source) source.now text.items) }
+{
+    text_of_notes(alloc, name_of(&asked.source), source)
 }

@@ -3,15 +3,11 @@ ghost use Rattle.std.specs.Prelude.{◌≡◌, ◌==◌, ◌≢◌, ◌≤◌, �
 ghost use Rattle.std.specs.List.{list_any, slice_split};
 ghost use Rattle.lucid_value.specs.Plain.{same_bytes};
 ghost use Rattle.lucid_scan.specs.Refusals.{Refuses, most_source_bytes};
-ghost use Rattle.lucid_words.specs.Asked.{plain_words};
-ghost use Rattle.lucid_explain_report.specs.Said.{name_in};
 ghost use Rattle.lucid_explain_report.specs.Notes.{most_noted, behind, text_in, is_spelt, is_name, is_list, token_at, parts_items, has_item, is_item, note_of, has_word, is_start, is_moving, is_picking, is_timed, is_breaking, len_of_part, part, lags, is_sum, heads, any_end, outer_at, first_outer, bounds_block, len_of_block, outer_in, outer_of_part, outer_behind, loop_at, is_freeze, used_at, first_used, block_part, frozen_at, frozen_note, note_at, first_note, said_of, said_text, note_text, TellsNote};
 
-use crate::explaining::name_of;
 use lucid_explain_places::put_place;
 use lucid_scan::{ScanRefusal, Token, TokenKind, scan};
 use lucid_value::is_blank;
-use lucid_words::Words;
 use std::alloc::{AllocError, Global};
 
 /// So many bytes a source has at most of which something is noted: each of its tokens is held against all.
@@ -552,13 +548,17 @@ fn text_of_short(alloc: Global, file: &[u8], source: &[u8]) -> Result<Vec<u8>, A
     }
 }
 
-/// What is noted of a source that runs, which a call with these words read: a list of constants with a word in it that is spelt as a name, a sum that lags
-/// behind, a block that begins once, or in a block the name whose value it freezes. The first of all is said, and nothing of more than 4096 bytes.
-pub fn explain_note(alloc: Global, asked: &Words, source: &[u8]) -> Result<Vec<u8>, AllocError>
-    ensures { IfOk result (λ text. TellsNote (name_in (plain_words asked.now).source) source.now text.items) }
+/// What is noted of a source of this name: a list of constants with a word in it that is spelt as a name, a sum that lags behind, a block that begins once,
+/// or in a block the name whose value it freezes. The first of all is said, and nothing of more than 4096 bytes.
+pub(crate) fn text_of_notes(
+    alloc: Global,
+    file: &[u8],
+    source: &[u8],
+) -> Result<Vec<u8>, AllocError>
+    ensures { IfOk result (λ text. TellsNote file.now source.now text.items) }
 {
     if source.len() > MOST_NOTED {
         return Ok(Vec::new(alloc));
     }
-    text_of_short(alloc, name_of(&asked.source), source)
+    text_of_short(alloc, file, source)
 }

@@ -6,9 +6,11 @@ ghost use Rattle.lucid_explain_source.specs.Accepted.{IsAccepted};
 ghost use Rattle.lucid_explain_source.specs.Sources.{Explains};
 ghost use Rattle.lucid_explain_run.specs.Inputs.{TellsInputs, TellsFree};
 ghost use Rattle.lucid_explain_run.specs.Depths.{TellsDepth};
+ghost use Rattle.lucid_explain_report.specs.Notes.{TellsNote};
 ghost use Rattle.lucid_explain_report.specs.Stops.{stop_text};
 ghost use Rattle.lucid_explain_report.specs.Said.{names_given, place_said, TellsFault};
 
+use crate::notes::text_of_notes;
 use crate::stops::stop_text;
 use lucid_explain_places::put_place;
 use lucid_explain_run::{TooDeep, explain_depth, explain_free, explain_inputs};
@@ -129,17 +131,21 @@ pub(crate) fn text_of_place(
     Ok(text)
 }
 
-/// What is said of a value that is too deep at the time.
+/// What is said of a value that is too deep at the time, and what is noted of the source: mostly of a search that finds nothing.
 pub(crate) fn text_of_time(
     alloc: Global,
     stopped: &Stopped<'_>,
     time: u64,
 ) -> Result<Vec<u8>, AllocError>
-    ensures { IfOk result (λ text. (said : List ℕ) × TellsDepth stopped.now.source.now (plain_words stopped.now.asked.now).depth time said
-        × (text.items ≡ said ++ stop_text stopped.now.stop.now)) }
+    ensures { IfOk result (λ text. (said : List ℕ) × (note : List ℕ)
+        × TellsDepth stopped.now.source.now (plain_words stopped.now.asked.now).depth time said
+        × TellsNote stopped.now.name.now stopped.now.source.now note
+        × (text.items ≡ said ++ (stop_text stopped.now.stop.now ++ note))) }
 {
     let limit = stopped.asked.options.depth;
+    let note = text_of_notes(alloc, stopped.name, stopped.source)?;
     let mut text = explain_depth(alloc, stopped.source, TooDeep { limit, time })?;
     text.extend_from_slice(stop_text(stopped.stop))?;
+    text.extend_from_slice(&note)?;
     Ok(text)
 }

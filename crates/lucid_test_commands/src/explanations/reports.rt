@@ -376,7 +376,7 @@ static WORDS: [Row; 13] = [
 ];
 
 // Runs that don't end well.
-static RUNS: [Row; 7] = [
+static RUNS: [Row; 8] = [
     Row {
         words: "p a=none",
         source: "a",
@@ -412,6 +412,12 @@ static RUNS: [Row; 7] = [
         source: "n whenever n < 0 where n = 0 fby n + 1; end",
         status: Status::TooDeep,
         report: "too deep at time 0\n`--cycles` says: not judged at 2\nHere is a search: it looks at times below the depth limit alone. If its test is never true again, no depth is enough: --count asks for the lines that there are. If it is true later:\nA greater --depth may be enough, up to 1000000.\n",
+    },
+    Row {
+        words: "--depth 9 p",
+        source: "c asa i eq n where i = 0 fby i + 1; c = n fby c * 2; end where n = 1 fby n + 1; end",
+        status: Status::TooDeep,
+        report: "too deep at time 0\n`--cycles` says: not judged at 2\nHere is a search: it looks at times below the depth limit alone. If its test is never true again, no depth is enough: --count asks for the lines that there are. If it is true later:\nA greater --depth may be enough, up to 1000000.\np:1:3:\nc asa i eq n where i = 0 fby i + 1; c = n fby c * 2; end where n = 1 fby n + 1; end\n  ^\n`asa` gives one value for all times. A block that is to begin anew at each time has `k is current n;`, and then k in place of n.\n",
     },
     Row {
         words: "--depth 9 p",
