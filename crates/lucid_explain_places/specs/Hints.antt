@@ -216,7 +216,7 @@ is_inner a those = has (codes ";") those && (length a.read == 0 && same_bytes a.
 -- where a definition goes on, and what stands there doesn't
 abbrev pub inner_hint : PlainAround → List Candidate → List ℕ
 inner_hint a those =
-    if is_inner a those then codes "Each `where` has an `end` of its own: one is missing. Behind the `end` of an inner block stands the `;` of its definition.\n"
+    if is_inner a those then codes "Each `where` has an `end` of its own: one is missing. Here the last `end` ends an inner block: where that is whole before, write `end;` there, and else `; end` here.\n"
     else if same_bytes a.read (codes "fi") && has (codes ";") those then codes "In this definition no `if` is open: leave the `fi` out, or end the definition with `;`.\n"
     else definition_hint a.read those
 

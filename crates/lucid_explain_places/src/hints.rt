@@ -412,7 +412,7 @@ fn inner_hint(around: &Around<'_>, those: &[Candidate]) -> &'static [u8]
     ensures { result.now ≡ inner_hint (plain_around around.now) those.now }
 {
     if is_inner(around, those) {
-        b"Each `where` has an `end` of its own: one is missing. Behind the `end` of an inner block stands the `;` of its definition.\n"
+        b"Each `where` has an `end` of its own: one is missing. Here the last `end` ends an inner block: where that is whole before, write `end;` there, and else `; end` here.\n"
     } else if around.read == b"fi".as_slice() && has(b";", those) {
         b"In this definition no `if` is open: leave the `fi` out, or end the definition with `;`.\n"
     } else {

@@ -285,7 +285,7 @@ static MORE_HINTS: [Ends; 47] = [
     Ends {
         source: b"y where y = x * x where x = 3; end",
         begin: "syntax at 34\n",
-        end: ".\nEach `where` has an `end` of its own: one is missing. Behind the `end` of an inner block stands the `;` of its definition.\n",
+        end: ".\nEach `where` has an `end` of its own: one is missing. Here the last `end` ends an inner block: where that is whole before, write `end;` there, and else `; end` here.\n",
     },
     Ends {
         source: b"x where x = if true then 1 else 0 fi fi; end",
