@@ -477,9 +477,9 @@ slot_is_word rows values slot l some = let below = row_in_range values.0 rows sl
     within : length rows < 2 ^ 32 → slot < length rows → slot + 1 < 2 ^ 32
     within h below = omega (arith, h, below)
 
-pub part_in_room : (rows : List Row) (values : Values) (slot i : ℕ) → AreLaid rows values → IsRow (laid_from values.0 0 rows) slot
+pub part_in_room : (rows : List Row) (values : Values) (slot i : ℕ) → AreLaid rows values → IsRow (laid_from values.0 0 rows) slot → i < 3
     → part_number slot i < values.1
-part_in_room rows values slot i l some = let below = row_in_range values.0 rows slot some in let room = l.room in omega (arith, below, room)
+part_in_room rows values slot i l some h = let below = row_in_range values.0 rows slot some in let room = l.room in omega (arith, below, room, h)
 
 pub value_empty : (rows : List Row) (values : Values) → AreLaid rows values → (slot i : ℕ) → IsRow (laid_from values.0 0 rows) slot → i < 3
     → got_of (laid_from values.0 0 rows) (record { slot = slot; index = i }) ≡ None → value_at values.0 (part_number slot i) ≡ None

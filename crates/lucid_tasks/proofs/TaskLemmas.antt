@@ -92,20 +92,20 @@ module _ (old new : List (Option TaskRow)) (slot i : ℕ) (only : ChangesOnly ol
       by_row None = refl
       by_row (Some row) = ap got_value (part_other row.parts i (emptied (get_or row.parts i Idle)) k ne)
 
-module _ (v0 v1 v2 v3 : List (Option TaskRow)) (slot : ℕ) (zeroth : ChangesOnly v0 v1 slot (taken 0)) (first : ChangesOnly v1 v2 slot (taken 1))
-    (second : ChangesOnly v2 v3 slot (taken 2)) where
+module _ (v0 v1 v2 v3 : List (Option TaskRow)) (slot : ℕ) (second : ChangesOnly v0 v1 slot (taken 2)) (first : ChangesOnly v1 v2 slot (taken 1))
+    (zeroth : ChangesOnly v2 v3 slot (taken 0)) where
   pub all_empty : (k : ℕ) → k < 3 → got_of v3 (record { slot = slot; index = k }) ≡ None
-  all_empty zero h = got_other v2 v3 slot 2 second 0 (λ e. omega (arith, e)) ∙ got_other v1 v2 slot 1 first 0 (λ e. omega (arith, e))
-      ∙ got_none v0 v1 slot 0 zeroth
-  all_empty (suc zero) h = got_other v2 v3 slot 2 second 1 (λ e. omega (arith, e)) ∙ got_none v1 v2 slot 1 first
-  all_empty (suc (suc zero)) h = got_none v2 v3 slot 2 second
+  all_empty zero h = got_none v2 v3 slot 0 zeroth
+  all_empty (suc zero) h = got_other v2 v3 slot 0 zeroth 1 (λ e. omega (arith, e)) ∙ got_none v1 v2 slot 1 first
+  all_empty (suc (suc zero)) h = got_other v2 v3 slot 0 zeroth 2 (λ e. omega (arith, e)) ∙ got_other v1 v2 slot 1 first 2 (λ e. omega (arith, e))
+      ∙ got_none v0 v1 slot 2 second
   all_empty (suc (suc (suc k))) h = absurd (omega (arith, h))
 
   pub emptied_gone : (v4 : List (Option TaskRow)) → SetsOnly v3 v4 slot None → SetsOnly v0 v4 slot None
   emptied_gone v4 gone q = gone q ∙ chosen q slot (cond (q == slot) None (row_at v3 q)) None (row_at v0 q)
       (λ e. chosen_same q slot None (row_at v3 q) e)
-      (λ ne. chosen_other q slot None (row_at v3 q) ne ∙ elsewhere v2 v3 slot (taken 2) second q ne ∙ elsewhere v1 v2 slot (taken 1) first q ne
-      ∙ elsewhere v0 v1 slot (taken 0) zeroth q ne)
+      (λ ne. chosen_other q slot None (row_at v3 q) ne ∙ elsewhere v2 v3 slot (taken 0) zeroth q ne ∙ elsewhere v1 v2 slot (taken 1) first q ne
+      ∙ elsewhere v0 v1 slot (taken 2) second q ne)
 
 -- a change of other words than the parts and the parent
 pub words_tasks : (old new : List (Option TaskRow)) (slot : ℕ) (change : TaskRow → TaskRow) → ChangesOnly old new slot change → IsRow old slot

@@ -12,9 +12,9 @@ use Rattle.lucid_tasks.specs.Rows.{PartState, Idle, Asked, Got, TaskRow, is_read
 abbrev pub Values : Type 0
 Values = List (ℕ × Value) × ℕ
 
--- the number of a part: parts of later rows are past those of earlier ones, and the first part of a row is past its others
+-- the number of a part: parts of later rows are past those of earlier ones, and later parts of a row past earlier ones
 abbrev pub part_number : ℕ → ℕ → ℕ
-part_number slot index = 3 * slot + 2 - index
+part_number slot index = 3 * slot + index
 
 -- the slot that a word names: the word is one more, or 0 for none
 abbrev pub named : ℕ → Option ℕ

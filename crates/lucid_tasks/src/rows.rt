@@ -57,7 +57,7 @@ fn number(slot: usize, index: u32) -> usize
     requires index { index < 3 }
     ensures { result ≡ part_number slot index }
 {
-    3 * slot + 2 - index as usize
+    3 * slot + index as usize
 }
 
 // A new row, which has asked for nothing.
@@ -245,15 +245,15 @@ impl Rows {
         self.pool.discard(number(slot, index));
     }
 
-    // Ends a row with the values of its parts. The first part's value is the last that stands, so they go from the end.
+    // Ends a row with the values of its parts, which go from the end.
     #[inline(always)]
     fn end_with_values(&mut self, slot: usize)
         requires { IsRow self.old slot }
         ensures { SetsOnly self.old self.new slot None }
     {
-        self.drop_part(slot, 0);
-        self.drop_part(slot, 1);
         self.drop_part(slot, 2);
+        self.drop_part(slot, 1);
+        self.drop_part(slot, 0);
         self.end(slot);
     }
 
@@ -264,7 +264,7 @@ impl Rows {
         ensures { SetsOnly self.old self.new slot None }
     {
         let _row = self.row(slot);
-        if self.pool.ends_below(number(slot, 2)) {
+        if self.pool.ends_below(number(slot, 0)) {
             self.end(slot);
         } else {
             self.end_with_values(slot);

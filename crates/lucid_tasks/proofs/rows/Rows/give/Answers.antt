@@ -5,7 +5,7 @@ use Rattle.lucid_tasks.proofs.rows.Rows.give.Goals as goal
 pub put-requires-clause-room : goal.put-requires-clause-room
 put-requires-clause-room c = subst (λ n. n < c.self.inside.pool.1) (sym c.number.ensures)
     (part_in_room c.self.inside.rows.items c.self.inside.pool c.args.part.slot c.args.part.index c.self.invariant
-    (subst (λ v. IsRow v c.args.part.slot) (sym c.self.view_is) c.requires.row))
+    (subst (λ v. IsRow v c.args.part.slot) (sym c.self.view_is) c.requires.row) c.requires.index)
 
 pub put-requires-clause-absent : goal.put-requires-clause-absent
 put-requires-clause-absent c = ap (value_at c.self.inside.pool.0) c.number.ensures
