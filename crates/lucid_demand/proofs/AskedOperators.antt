@@ -1,8 +1,8 @@
 -- An operator is asked for: what is so after each look at an argument, the row that has its first argument, an argument that is asked for with the
 -- row, and a value that is given at once.
-use Rattle.lucid_demand.proofs.Common.{ℕ, List, [], ◌∷◌, DemandIn, Option, None, refl, sym, ap, ◌∙◌, subst, arith, slice_get, slice_set, Value, plain, Key, KeepsKnown, Task, TaskRow, Got, value_at, World, state_at, plain_task, plain_row, EngineView, holding, Demand, at_it, arity, Aim, Evaluating, cost, MayAskNow, MayRefer, IsTurned, AsksIn, DemandFault, NoMemory}
+use Rattle.lucid_demand.proofs.Common.{ℕ, List, [], ◌∷◌, DemandIn, Option, None, refl, sym, ap, ◌∙◌, subst, arith, slice_get, slice_set, Value, plain, Key, KeepsKnown, Task, TaskRow, Got, value_at, World, state_at, plain_task, plain_row, EngineView, holding, Demand, at_it, arity, Aim, Evaluating, cost, MayAskNow, MayRefer, SetsPart, IsTurned, AsksIn, DemandFault, NoMemory, IsSome}
 use Rattle.std.proofs.Common.{◌≡◌, ◌<◌, Some}
-use Rattle.std.specs.Prelude.{Result, Ok, Err, option_map}
+use Rattle.std.specs.Prelude.{Result, Ok, Err, IfSome, option_map}
 use Rattle.lucid_tasks.specs.declared.Part.{Part}
 use Rattle.lucid_tasks.specs.Rows as rows
 use Rattle.lucid_ops.specs.Algebra.{algebra}
@@ -17,8 +17,8 @@ use Rattle.lucid_demand.specs.Naming.{MayHaveRow, MayGiveAtOnce, AnswersTask}
 use Rattle.lucid_demand.specs.Telling.{IsOperation, IsTold, LooksAt, HasFirst}
 use Rattle.lucid_demand.proofs.MayAsk.{part_may_be_asked}
 use Rattle.lucid_demand.proofs.Turning.{turned_cost}
-use Rattle.lucid_demand.proofs.AskedParts.{Passes, passes_then, refers_now, asked_refused, asked_from, asked_given, given_turned, only_set}
-use Rattle.lucid_demand.proofs.NamedBodies.{row_asked, asked_on}
+use Rattle.lucid_demand.proofs.AskedParts.{Passes, passes_then, refers_now, asked_refused, asked_from, asked_given, given_turned, given_sets, only_set}
+use Rattle.lucid_demand.proofs.NamedBodies.{row_asked, row_sets, within_sets, asked_on}
 use Rattle.lucid_demand.proofs.ToldOperators.{row_turned, task_answers_turned, row_looked, task_answers_looked, told_answers, operation_answers}
 
 -- ---- what a look and a turn leave
@@ -159,6 +159,28 @@ module _ (e made : Evaluating) (part : Option Part) (slot : ℕ) (y : Task) (key
     (h : HasFirst e.rows made.rows part slot y key first) (same : made.engine ≡ e.engine) where
   so : record { engine = e.engine; rows = made.rows } ≡ made
   so = λ i. record { engine = sym same i; rows = made.rows }
+
+  its_parts : rows.row_at made.rows slot ≡ Some (row_with y part key (slice_set rows.all_idle 0 (Got first)))
+  its_parts = h.gives slot ∙ at_it slot slot (option_map (rows.with_part 0 (Got first)) (rows.row_at h.between slot)) (rows.row_at h.between slot) refl
+      ∙ ap (option_map (rows.with_part 0 (Got first))) (h.asks slot ∙ at_it slot slot (Some (rows.fresh y part key)) _ refl)
+
+  -- Its second part is idle,
+  pub made_idle : rows.IsIdlePart made.rows (record { slot = slot; index = 1 })
+  made_idle = record {
+    row = subst (λ o. IsSome o) (sym its_parts) refl;
+    index = omega arith;
+    idle = ap (option_map (rows.state_at 1)) its_parts;
+  }
+
+  -- and the part that it is for waits for it.
+  pub made_sets : IfSome part (rows.IsIdlePart e.rows) → IfSome part (SetsPart e made)
+  made_sets idle =
+      within_sets e (record { engine = e.engine; rows = h.between }) made part (record { slot = slot; index = 0 }) idle h.past
+      (row_sets e e refl part y key idle h.between slot h.past h.asks)
+      (given_sets (record { engine = e.engine; rows = h.between }) made h.between refl
+      (only_set made.engine e.engine e.engine.known e.engine.stored e.engine.noted same)
+      (subst (λ (z : EngineView). KeepsKnown e.engine.known z.known) (sym same) (record { known = λ tag k. k; same = λ tag k. refl }))
+      (Some (record { slot = slot; index = 0 })) first h.gives)
 
   pub made_given : (d : Demand) (w : World) (x : Task) (op : Operation) → MayHaveRow d e w part x y key → IsOperation e.engine.table y.node op
       → AnswersTask d e (record y { node = op.first }) first → (r : Option Value) → r ≡ None → AsksIn d e made w part (Ok r)

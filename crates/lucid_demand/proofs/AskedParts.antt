@@ -525,6 +525,8 @@ module _ (old new : Evaluating) (inner : List (Option TaskRow)) (same : inner �
   given_sets (Some part) v gives = record {
     state = Got v;
     row = changed_row old.rows new.rows part.slot (rows.with_part part.index (Got v)) (subst (λ rs. rows.Gives rs new.rows (Some part) v) same gives);
+    others = λ q there ne.
+        gives q ∙ at_another q part.slot (option_map (rows.with_part part.index (Got v)) (row_at inner q)) (row_at inner q) ne ∙ ap (λ rs. row_at rs q) same;
     only = only;
     keeps = keeps;
   }
@@ -539,6 +541,11 @@ module _ (old new : Evaluating) (inner : List (Option TaskRow)) (same : inner �
         asks part.slot ∙ at_another part.slot slot (Some (rows.fresh y (Some part) key)) _ (λ e. absurd (omega (arith, low, e)))
         ∙ at_it part.slot part.slot (option_map (rows.with_part part.index (rows.Asked slot)) (row_at inner part.slot)) (row_at inner part.slot) refl
         ∙ ap (λ rs. option_map (rows.with_part part.index (rows.Asked slot)) (row_at rs part.slot)) same;
+    others = λ q there ne.
+        asks q ∙ at_another q slot (Some (rows.fresh y (Some part) key)) _
+        (λ e. let low = past q (subst (λ rs. rows.IsRow rs q) (sym same) there) in absurd (omega (arith, low, e)))
+        ∙ at_another q part.slot (option_map (rows.with_part part.index (rows.Asked slot)) (row_at inner q)) (row_at inner q) ne
+        ∙ ap (λ rs. row_at rs q) same;
     only = only;
     keeps = keeps;
   }
@@ -559,12 +566,22 @@ passes_then old mid new p q = record {
   };
 }
 
+-- Only more contexts are known.
+pub passes_known : (old now : Evaluating) → now.rows ≡ old.rows → now.engine ≡ record old.engine { known = now.engine.known }
+    → KeepsKnown old.engine.known now.engine.known → Passes old now
+passes_known old now same only keeps = record {
+  rows_stay = same;
+  only = only_set now.engine old.engine now.engine.known old.engine.stored old.engine.noted only;
+  keeps = keeps;
+}
+
 -- What is set of a part then was set.
 pub sets_then : (old mid new : Evaluating) → Passes old mid → (part : Option Part) → IfSome part (SetsPart mid new) → IfSome part (SetsPart old new)
 sets_then old mid new p None s = tt
 sets_then old mid new p (Some part) s = record {
   state = s.state;
   row = s.row ∙ ap (λ rs. option_map (rows.with_part part.index s.state) (row_at rs part.slot)) p.rows_stay;
+  others = λ q there ne. s.others q (subst (λ rs. rows.IsRow rs q) (sym p.rows_stay) there) ne ∙ ap (λ rs. row_at rs q) p.rows_stay;
   only = s.only ∙ ap (λ (e : EngineView). record e { known = new.engine.known; stored = new.engine.stored; noted = new.engine.noted }) p.only;
   keeps = record {
     known = λ tag h. s.keeps.known tag (p.keeps.known tag h);
@@ -609,6 +626,7 @@ last_sets o old view known keeps new None sets = tt
 last_sets o old view known keeps new (Some part) sets = subst (λ z. SetsPart z new part) view (record {
   state = sets.state;
   row = sets.row;
+  others = sets.others;
   only = sets.only;
   keeps = record { known = λ tag k. sets.keeps.known tag (keeps.known tag k); same = λ tag k. sets.keeps.same tag (keeps.known tag k) ∙ keeps.same tag k };
 })

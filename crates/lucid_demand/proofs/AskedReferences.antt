@@ -256,6 +256,7 @@ module _ {F : Type 0} (old mid looked : Evaluating) (x : Task) (result : Result 
   body_sets (Some p) known more new s = record {
     state = s.state;
     row = s.row ∙ ap (λ rs. option_map (rows.with_part p.index s.state) (rows.row_at rs p.slot)) same_rows;
+    others = λ q there ne. s.others q (subst (λ rs. rows.IsRow rs q) (sym same_rows) there) ne ∙ ap (λ rs. rows.row_at rs q) same_rows;
     only = s.only ∙ ap (λ (e : EngineView). record e { known = new.engine.known; stored = new.engine.stored; noted = new.engine.noted }) engine_is;
     keeps = record {
       known = λ tag h. s.keeps.known tag (more.known tag (keeps_known.known tag h));

@@ -9,6 +9,7 @@ pub mod Demanding
 pub mod ElementRead
 pub mod GoneRows
 pub mod GrownTags
+pub mod Leading
 pub mod LookingOn
 pub mod Looping
 pub mod MayAsk

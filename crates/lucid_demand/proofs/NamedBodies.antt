@@ -320,34 +320,27 @@ looked_sets old mid new key found None l s = tt
 looked_sets old mid new key found (Some p) l s = record {
   state = s.state;
   row = s.row ∙ ap (λ (e : Evaluating). option_map (rows.with_part p.index s.state) (rows.row_at e.rows p.slot)) l.only;
+  others = λ q there ne.
+      s.others q (subst (λ (e : Evaluating). rows.IsRow e.rows q) (sym l.only) there) ne ∙ ap (λ (e : Evaluating). rows.row_at e.rows q) l.only;
   only = s.only ∙ ap (λ (e : Evaluating). record e.engine { known = new.engine.known; stored = new.engine.stored; noted = new.engine.noted }) l.only;
   keeps = subst (λ (e : Evaluating). KeepsKnown e.engine.known new.engine.known) l.only s.keeps;
 }
 
--- A row that is made for a part leaves each other row that is there.
-pub others_stay : (inner new old : List (Option TaskRow)) → inner ≡ old → (part : Part) (slot : ℕ) (y : Task) (key : Option Key) → rows.IsPast inner slot
-    → rows.Asks inner new (Some part) slot y key → (q : ℕ) → rows.IsRow old q → q ≢ part.slot → rows.row_at new q ≡ rows.row_at old q
-others_stay inner new old same part slot y key past asks q there other =
-    asks q ∙ at_another q slot (Some (rows.fresh y (Some part) key)) _
-    (λ e. let low = past q (subst (λ rs. rows.IsRow rs q) (sym same) there) in absurd (omega (arith, low, e)))
-    ∙ at_another q part.slot (option_map (rows.with_part part.index (rows.Asked slot)) (rows.row_at inner q)) (rows.row_at inner q) other
-    ∙ ap (λ rs. rows.row_at rs q) same
-
 -- What is asked for within a new row leaves what was set.
-within_sets : (old mid new : Evaluating) (part : Option Part) (slot : ℕ) → IfSome part (rows.IsIdlePart old.rows) → rows.IsPast old.rows slot
-    → IfSome part (SetsPart old mid) → ((q : ℕ) → rows.IsRow mid.rows q → q ≢ slot → rows.row_at new.rows q ≡ rows.row_at mid.rows q)
-    → new.engine ≡ record mid.engine { known = new.engine.known } → KeepsKnown mid.engine.known new.engine.known → IfSome part (SetsPart old new)
-within_sets old mid new None slot idle past s others only keeps = tt
-within_sets old mid new (Some p) slot idle past s others only keeps = record {
+pub within_sets : (old mid new : Evaluating) (part : Option Part) (sub : Part) → IfSome part (rows.IsIdlePart old.rows) → rows.IsPast old.rows sub.slot
+    → IfSome part (SetsPart old mid) → SetsPart mid new sub → IfSome part (SetsPart old new)
+within_sets old mid new None sub idle past s t = tt
+within_sets old mid new (Some p) sub idle past s t = record {
   state = s.state;
-  row =
-      others p.slot (subst (λ o. IsSome o) (sym s.row) (row_stays (rows.row_at old.rows p.slot) idle.row))
-      (λ e. let low = past p.slot idle.row in absurd (omega (arith, low, e))) ∙ s.row;
-  only = only_set new.engine old.engine new.engine.known mid.engine.stored mid.engine.noted
-      (only ∙ ap (λ (e : EngineView). record e { known = new.engine.known }) s.only);
-  keeps = record { known = λ tag h. keeps.known tag (s.keeps.known tag h); same = λ tag h. keeps.same tag (s.keeps.known tag h) ∙ s.keeps.same tag h };
+  row = t.others p.slot (subst (λ o. IsSome o) (sym s.row) (row_stays (rows.row_at old.rows p.slot) idle.row)) (below p.slot idle.row) ∙ s.row;
+  others = λ q there ne. t.others q (subst (λ o. IsSome o) (sym (s.others q there ne)) there) (below q there) ∙ s.others q there ne;
+  only = t.only ∙ ap (λ (e : EngineView). record e { known = new.engine.known; stored = new.engine.stored; noted = new.engine.noted }) s.only;
+  keeps = record { known = λ tag h. t.keeps.known tag (s.keeps.known tag h); same = λ tag h. t.keeps.same tag (s.keeps.known tag h) ∙ s.keeps.same tag h };
 }
   where
+    below : (q : ℕ) → rows.IsRow old.rows q → q ≢ sub.slot
+    below q there e = let low = past q there in absurd (omega (arith, low, e))
+
     row_stays : (o : Option TaskRow) → IsSome o → IsSome (option_map (rows.with_part p.index s.state) o)
     row_stays None h = absurd (cc)
     row_stays (Some r) h = refl
@@ -355,12 +348,12 @@ within_sets old mid new (Some p) slot idle past s others only keeps = record {
 -- So it is where the name was looked up before, and the engine is seen so.
 pub named_sets : (old looked o new : Evaluating) (key : Key) (found : Option Value) → LooksUp old looked key found → o ≡ looked → (part : Option Part) (y : Task)
     (k : Option Key) → IfSome part (rows.IsIdlePart old.rows) → (rs : List (Option TaskRow)) (slot : ℕ) → rows.IsPast o.rows slot
-    → rows.Asks o.rows rs part slot y k → ((q : ℕ) → rows.IsRow rs q → q ≢ slot → rows.row_at new.rows q ≡ rows.row_at rs q)
-    → new.engine ≡ record o.engine { known = new.engine.known } → KeepsKnown o.engine.known new.engine.known → IfSome part (SetsPart old new)
-named_sets old looked o new key found l view part y k idle rs slot past asks others only keeps =
+    → rows.Asks o.rows rs part slot y k → SetsPart (record { engine = o.engine; rows = rs }) new (record { slot = slot; index = 0 })
+    → IfSome part (SetsPart old new)
+named_sets old looked o new key found l view part y k idle rs slot past asks within =
     looked_sets old looked new key found part l
-    (within_sets looked (record { engine = o.engine; rows = rs }) new part slot idle_looked
-    (subst (λ (e : Evaluating). rows.IsPast e.rows slot) view past) (row_sets o looked view part y k idle_looked rs slot past asks) others only keeps)
+    (within_sets looked (record { engine = o.engine; rows = rs }) new part (record { slot = slot; index = 0 }) idle_looked
+    (subst (λ (e : Evaluating). rows.IsPast e.rows slot) view past) (row_sets o looked view part y k idle_looked rs slot past asks) within)
   where
     idle_looked : IfSome part (rows.IsIdlePart looked.rows)
     idle_looked = idle_seen looked (record old { engine = record old.engine { stored = looked.engine.stored } }) part l.only idle

@@ -1,7 +1,7 @@
 -- The values of an operator's arguments, to which it is applied.
 use Rattle.lucid_demand.proofs.Common.{ℕ, zero, suc, ◌+◌, List, [], ◌∷◌, Option, refl, sym, ap, ◌∙◌, subst, arith, same_Some, IsErrAnd, ⊤, IsSome, slice_get, slice_index_or, Value, PlainValue, plain, Op, arity, Idle, Evaluating, gave, Applies, value_of, DemandFault, slice_set}
 use Rattle.std.proofs.Common.{◌≡◌, ◌<◌, length, Some}
-use Rattle.std.specs.Prelude.{Result, Ok, Err, IfOk}
+use Rattle.std.specs.Prelude.{Result, Ok, Err, IfOk, IfErr}
 use Rattle.lucid_ops.specs.Algebra.{algebra}
 use Rattle.lucid_tasks.specs.Rows as rows
 use Rattle.lucid_demand_steps.specs.Justified.{HaveValues}
@@ -67,3 +67,8 @@ err_is (Err e) x h = ap Err h
 -- so it is where there is an answer beside it
 pub gave_err : (r : Result ⊤ DemandFault) (answer : Option Value) (x : DemandFault) → IsErrAnd r (λ e. e ≡ x) → gave r answer ≡ Err x
 gave_err r answer x h = ap (λ z. gave z answer) (err_is r x h)
+
+-- what is so of a refusal that is this one
+pub if_refused : {A E : Type 0} (r : Result A E) (x : E) (P : E → Type 0) → IsErrAnd r (λ e. e ≡ x) → P x → IfErr r P
+if_refused (Ok a) x P h p = tt
+if_refused (Err e) x P h p = subst (λ z. P z) (sym h) p

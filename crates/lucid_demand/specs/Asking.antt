@@ -1,5 +1,5 @@
 -- When a task may be asked for, for a part of a row or as the root, and what asking does.
-use Rattle.std.specs.Prelude.{◌≡◌, ℕ, suc, ◌<◌, ◌≤◌, List, [], Option, Some, None, IsTrue, Result, Err, IfOk, IfErr, IfSome, ◌⊎◌, length, slice_get, option_map}
+use Rattle.std.specs.Prelude.{◌≡◌, ◌≢◌, ℕ, suc, ◌<◌, ◌≤◌, List, [], Option, Some, None, IsTrue, Result, Err, IfOk, IfErr, IfSome, ◌⊎◌, length, slice_get, option_map}
 use Rattle.std.specs.List.{filter_map}
 use Rattle.lucid_tree.specs.Members.{In}
 use Rattle.lucid_tree.specs.Levels.{Elements, entered_of}
@@ -11,7 +11,7 @@ use Rattle.lucid_tasks.specs.declared.Part.{Part}
 use Rattle.lucid_tasks.specs.declared.Task.{Task}
 use Rattle.lucid_value.specs.declared.Value.{Value}
 use Rattle.lucid_value.specs.View.{plain}
-use Rattle.lucid_tasks.specs.Rows.{TaskRow, PartState, row_at, with_part, is_ready, IsIdlePart}
+use Rattle.lucid_tasks.specs.Rows.{TaskRow, PartState, row_at, with_part, is_ready, IsRow, IsIdlePart}
 use Rattle.lucid_ports.specs.World.{World}
 use Rattle.lucid_equations.specs.declared.table.Table.{Table}
 use Rattle.lucid_equations.specs.Datons.{Daton}
@@ -40,11 +40,12 @@ pub record CanAskAll (e : Evaluating) (slot : ℕ) (op : Op) (args : List ℕ) :
   pub known : (r : TaskRow) → row_at e.rows slot ≡ Some r → IsKnown e.engine.known r.task.tag
   pub there : (i n : ℕ) → i < arity op → slice_get args i ≡ Some n → n < length e.engine.table.nodes
 
--- What asking for a part does to the row, whoever asks: that part alone is set. No known context is forgotten; of what is held a value may
--- have been looked up, and then the policy had its turn.
+-- What asking for a part does to the rows that there were, whoever asks: that part alone is set. No known context is forgotten; of what is held a value
+-- may have been looked up, and then the policy had its turn.
 pub record SetsPart (old new : Evaluating) (part : Part) : Type 0 where
   pub state : PartState
   pub row : row_at new.rows part.slot ≡ option_map (with_part part.index state) (row_at old.rows part.slot)
+  pub others : (q : ℕ) → IsRow old.rows q → q ≢ part.slot → row_at new.rows q ≡ row_at old.rows q
   pub only : new.engine ≡ record old.engine { known = new.engine.known; stored = new.engine.stored; noted = new.engine.noted }
   pub keeps : KeepsKnown old.engine.known new.engine.known
 

@@ -3,6 +3,7 @@ pub mod Asking
 pub mod Demanded
 pub mod Evaluating
 pub mod EvaluatingCode
+pub mod Leading
 pub mod LoopEnds
 pub mod Naming
 pub mod Reading

@@ -1,11 +1,12 @@
 //! The body of a reference is asked for. Where it is a name, that is looked for at once.
-ghost use Rattle.std.specs.Prelude.{◌≡◌, ◌≢◌, ◌<◌, ℕ, Some, None, IfSome, OnOk, length};
+ghost use Rattle.std.specs.Prelude.{◌≡◌, ◌<◌, Some, None, IfSome, IfOk, IfErr, OnOk, length};
 ghost use Rattle.lucid_tags.specs.Known.{IsKnown, KeepsKnown};
-ghost use Rattle.lucid_tasks.specs.Rows.{IsRow, IsIdlePart, row_at};
+ghost use Rattle.lucid_tasks.specs.Rows.{IsIdlePart};
 ghost use Rattle.lucid_store.specs.Entries.{value_at};
 ghost use Rattle.lucid_demand.specs.Evaluating.{gave};
 ghost use Rattle.lucid_demand.specs.Acting.{DemandIn};
 ghost use Rattle.lucid_demand.specs.Asking.{MayRefer, AsksIn, SetsPart};
+ghost use Rattle.lucid_demand.specs.Leading.{GoesOnWith, IsRefused};
 ghost use Rattle.lucid_demand.specs.Naming.{IsNamedAim, MayAskBody, MayGiveBody};
 
 use crate::DemandFault;
@@ -51,7 +52,7 @@ impl<R: Retire, S: Pick> Evaluation<R, S> {
     // The same of a body that may be a name. Where the name's value is held, that is the reference's value too. Else the body has a row, which
     // asks for the name's own body at once.
     #[inline(never)]
-    fn ask_named(
+    pub(crate) fn ask_named(
         &mut self,
         part: Option<Part>,
         body: Task,
@@ -83,18 +84,33 @@ impl<R: Retire, S: Pick> Evaluation<R, S> {
         requires idle { IsIdlePart self.old.rows part }
         requires known { IsKnown self.old.engine.known task.tag }
         requires named { IsNamedAim self.old task aim }
-        ensures rows { OnOk result ((q : ℕ) → IsRow self.old.rows q → q ≢ part.slot → row_at self.new.rows q ≡ row_at self.old.rows q) }
-        ensures only { self.new.engine ≡ record self.old.engine { known = self.new.engine.known } }
-        ensures keeps { KeepsKnown self.old.engine.known self.new.engine.known }
+        ensures sets { OnOk result (SetsPart self.old self.new part) }
         ensures asks { (i : DemandIn) → MayRefer i.demand self.old i.world (Some part) task → value_at self.old.engine.stored aim.key ≡ None
             → AsksIn i.demand self.old self.new i.world (Some part) (gave result None) }
+    {
+        let body = self.body_of(task, aim)?;
+        self.tasks.ask(Some(part), body, Some(aim.key))?;
+        Ok(())
+    }
+
+    /// The body of a name that isn't held, after all that only moves the point.
+    #[inline(always)]
+    pub(crate) fn body_of(&mut self, task: Task, aim: Aim) -> Result<Task, DemandFault>
+        requires known { IsKnown self.old.engine.known task.tag }
+        requires named { IsNamedAim self.old task aim }
+        ensures rows { self.new.rows ≡ self.old.rows }
+        ensures only { self.new.engine ≡ record self.old.engine { known = self.new.engine.known } }
+        ensures keeps { KeepsKnown self.old.engine.known self.new.engine.known }
+        ensures there { IfOk result (λ body. body.node < length self.new.engine.table.nodes) }
+        ensures known { IfOk result (λ body. IsKnown self.new.engine.known body.tag) }
+        ensures lower { IfOk result (λ body. body.depth < task.depth) }
+        ensures goes_on { IfOk result (GoesOnWith self.old self.new task aim) }
+        ensures refused { IfErr result (IsRefused self.old self.new task aim) }
     {
         if task.depth == 0 {
             return Err(DemandFault::TooDeep);
         }
-        let body = moved_on(&self.program, &mut self.tags, aim.task(task.depth - 1))?;
-        self.tasks.ask(Some(part), body, Some(aim.key))?;
-        Ok(())
+        Ok(moved_on(&self.program, &mut self.tags, aim.task(task.depth - 1))?)
     }
 
     /// A value that another name has, or that an operator gives, is put under a key, and given. The policy has its turn before and after, so that it

@@ -8,6 +8,7 @@ ghost use Rattle.lucid_demand.specs.Acting.{DemandIn};
 ghost use Rattle.lucid_demand.specs.Asking.{AsksIn, SetsPart};
 ghost use Rattle.lucid_demand.specs.Naming.{MayHaveRow, MayGiveAtOnce};
 ghost use Rattle.lucid_demand.specs.Telling.{IsOperation, IsSeenAs, LooksAt, HasFirst};
+ghost use Rattle.lucid_demand.specs.Leading.{LeadsTo, OnDone};
 
 use crate::DemandFault;
 use crate::turn::Evaluation;
@@ -28,6 +29,26 @@ struct Operation {
     second: u32,
 }
 
+// A task that is asked for, for a part or for the demand's answer. The body of a reference has its key.
+#[derive(Clone, Copy)]
+struct Wanted {
+    part: Option<Part>,
+    task: Task,
+    key: Option<Key>,
+}
+
+// The body of the reference with this key, for a part of a row.
+#[inline(always)]
+fn for_part(slot: usize, index: u32, body: Task, key: Key) -> Wanted
+    ensures { result ≡ record { part = Some (record { slot = slot; index = index }); task = body; key = Some key } }
+{
+    Wanted {
+        part: Some(Part { slot, index }),
+        task: body,
+        key: Some(key),
+    }
+}
+
 // What an argument is before it is asked for: one that has its value at once, a constant or a name that is held; a name that isn't held, with what
 // it goes on with; or another.
 #[derive(Drop)]
@@ -39,9 +60,8 @@ enum Argument {
 
 impl<R: Retire, S: Pick> Evaluation<R, S> {
     /// Asks for a task that doesn't move the point, for a part or for the demand's answer, which is the body of a reference where there is a key.
-    /// An operator whose two arguments are told is applied. Else the task has a row, which has the first argument where that was told; and a name
-    /// that was looked up and isn't held is asked for at once, so that no look is made twice. The policy has its turn after each look that found
-    /// something, so that it is told of each key that is touched.
+    /// An operator whose two arguments are told is applied. Else the task has a row, which has the first argument where that was told; and the body of
+    /// a name that was looked up and isn't held is asked for at once, in the same way where it is such an operator.
     #[inline(never)]
     pub(crate) fn ask_operator(
         &mut self,
@@ -58,6 +78,35 @@ impl<R: Retire, S: Pick> Evaluation<R, S> {
         ensures open { IfSome part (λ p. answer.new ≡ None) }
         ensures asks { (i : DemandIn) (x : Task) → MayHaveRow i.demand self.old i.world part x task key → AsksIn i.demand self.old self.new i.world part (gave result answer.new) }
     {
+        let mut wanted = Wanted { part, task, key };
+        while let Some(next) = self.ask_operation(wanted, answer)? {
+            if !self.may_be_told(next.task.node) {
+                return self.ask_other(next, answer);
+            }
+            wanted = next;
+        }
+        Ok(())
+    }
+
+    // The same, but that the body of a name that isn't held is given back as what is wanted next. No look is made twice: the row's own turn would look
+    // the name up again. The policy has its turn after each look that found something, so that it is told of each key that is touched.
+    #[inline(always)]
+    fn ask_operation(
+        &mut self,
+        wanted: Wanted,
+        answer: &mut Option<Value>,
+    ) -> Result<Option<Wanted>, DemandFault>
+        requires idle { IfSome wanted.part (IsIdlePart self.old.rows) }
+        requires there { wanted.task.node < length self.old.engine.table.nodes }
+        requires known { IsKnown self.old.engine.known wanted.task.tag }
+        requires open { answer.old ≡ None }
+        ensures sets { OnDone result (λ done. OnOk done (IfSome wanted.part (SetsPart self.old self.new))) }
+        ensures open { IfSome wanted.part (λ p. answer.new ≡ None) }
+        ensures asks { (i : DemandIn) (x : Task) → MayHaveRow i.demand self.old i.world wanted.part x wanted.task wanted.key
+            → OnDone result (λ done. AsksIn i.demand self.old self.new i.world wanted.part (gave done answer.new)) }
+        ensures next { IfOk result (λ next. IfSome next (λ n. LeadsTo self.old self.new wanted n × (n.task.depth < wanted.task.depth) × (answer.new ≡ None))) }
+    {
+        let Wanted { part, task, key } = wanted;
         let Some(operation) = self.operation(task.node) else {
             return self.ask_row(part, task, key);
         };
@@ -69,7 +118,8 @@ impl<R: Retire, S: Pick> Evaluation<R, S> {
             Argument::Told(value) => value,
             Argument::Absent(aim) => {
                 let slot = self.tasks.ask(part, task, key)?;
-                return self.ask_within(Part { slot, index: 0 }, argument, aim);
+                let body = self.body_of(argument, aim)?;
+                return Ok(Some(for_part(slot, 0, body, aim.key)));
             }
             Argument::Other => return self.ask_row(part, task, key),
         };
@@ -82,15 +132,39 @@ impl<R: Retire, S: Pick> Evaluation<R, S> {
             Argument::Told(value) => value,
             Argument::Absent(aim) => {
                 let slot = self.ask_row_with(part, task, key, first)?;
-                return self.ask_within(Part { slot, index: 1 }, argument, aim);
+                let body = self.body_of(argument, aim)?;
+                return Ok(Some(for_part(slot, 1, body, aim.key)));
             }
             Argument::Other => {
                 self.ask_row_with(part, task, key, first)?;
-                return Ok(());
+                return Ok(None);
             }
         };
         let value = apply_to_two(self.alloc, operation.op, &first, &second)?;
-        self.give_at_once(part, key, value, answer)
+        self.give_at_once(part, key, value, answer)?;
+        Ok(None)
+    }
+
+    // Asks for what is no operator whose arguments may be told: a name is looked up, and all else has a row.
+    #[inline(always)]
+    fn ask_other(&mut self, wanted: Wanted, answer: &mut Option<Value>) -> Result<(), DemandFault>
+        requires idle { IfSome wanted.part (IsIdlePart self.old.rows) }
+        requires there { wanted.task.node < length self.old.engine.table.nodes }
+        requires known { IsKnown self.old.engine.known wanted.task.tag }
+        requires open { answer.old ≡ None }
+        ensures sets { OnOk result (IfSome wanted.part (SetsPart self.old self.new)) }
+        ensures open { IfSome wanted.part (λ p. answer.new ≡ None) }
+        ensures asks { (i : DemandIn) (x : Task) → MayHaveRow i.demand self.old i.world wanted.part x wanted.task wanted.key
+            → AsksIn i.demand self.old self.new i.world wanted.part (gave result answer.new) }
+    {
+        let Wanted { part, task, key } = wanted;
+        match (self.program.node(task.node), key) {
+            (Node::Refer { .. }, Some(key)) => self.ask_named(part, task, key, answer),
+            _ => {
+                self.tasks.ask(part, task, key)?;
+                Ok(())
+            }
+        }
     }
 
     /// Whether a node is an operator of two arguments each of which may be told at once, as it is a constant or a name. It is asked before the call:
@@ -151,20 +225,22 @@ impl<R: Retire, S: Pick> Evaluation<R, S> {
         }
     }
 
-    // A row waits for a task.
+    // A row waits for a task, and nothing else is wanted.
     #[inline(always)]
     fn ask_row(
         &mut self,
         part: Option<Part>,
         task: Task,
         key: Option<Key>,
-    ) -> Result<(), DemandFault>
+    ) -> Result<Option<Wanted>, DemandFault>
         requires idle { IfSome part (IsIdlePart self.old.rows) }
-        ensures sets { OnOk result (IfSome part (SetsPart self.old self.new)) }
-        ensures asks { (i : DemandIn) (x : Task) → MayHaveRow i.demand self.old i.world part x task key → AsksIn i.demand self.old self.new i.world part (gave result None) }
+        ensures sets { OnDone result (λ done. OnOk done (IfSome part (SetsPart self.old self.new))) }
+        ensures asks { (i : DemandIn) (x : Task) → MayHaveRow i.demand self.old i.world part x task key
+            → OnDone result (λ done. AsksIn i.demand self.old self.new i.world part (gave done None)) }
+        ensures done { IfOk result (λ next. next ≡ None) }
     {
         self.tasks.ask(part, task, key)?;
-        Ok(())
+        Ok(None)
     }
 
     // A row waits for a task, and has the value of its first part. Its slot is answered.

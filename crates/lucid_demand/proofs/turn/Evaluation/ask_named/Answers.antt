@@ -94,10 +94,9 @@ ask_within-requires-clause-named g c =
 pub returns-clause-sets : goal.returns-clause-sets
 returns-clause-sets g c =
     on_ok c.ask_within.result _ _
-    (λ others. named_sets c.args.self.now c.copy_held.new.self _ c.ask_within.new.self c.in-Some.aim.key c.in_ok-value.field-0
+    (named_sets c.args.self.now c.copy_held.new.self _ c.ask_within.new.self c.in-Some.aim.key c.in_ok-value.field-0
     (record { value = c.in_ok-value.ensures.value; touched = c.copy_held.ensures.touched; only = c.copy_held.ensures.only }) c.self-2.view_is c.args.part c.args.body _
-    c.requires.idle c.ask-2.new.self c.in_ok-slot.slot c.in_ok-slot.ensures.newest c.in_ok-slot.ensures.rows others c.ask_within.ensures.only
-    c.ask_within.ensures.keeps) c.ask_within.ensures.rows
+    c.requires.idle c.ask-2.new.self c.in_ok-slot.slot c.in_ok-slot.ensures.newest c.in_ok-slot.ensures.rows) c.ask_within.ensures.sets
 
 pub returns-clause-open : goal.returns-clause-open
 returns-clause-open g c = open_still c.args.part c.args.answer.now c.requires.open

@@ -1,157 +1,63 @@
-use Rattle.lucid_demand.proofs.Common.{None, sym, subst, value_at, AsksIn, gave, NoMemory}
-use Rattle.std.proofs.Common.{◌≡◌, Ok}
-use Rattle.std.specs.Prelude.{IfSome}
-use Rattle.lucid_demand.specs.Naming.{IsNamedAim}
-use Rattle.lucid_demand.specs.Telling.{IsOperation, IsTold, IsSeenAs}
-use Rattle.lucid_demand.proofs.TakenParts.{gave_err}
-use Rattle.lucid_demand.proofs.AskedParts.{on_ok, sets_then}
-use Rattle.lucid_demand.proofs.NamedBodies.{row_refused}
-use Rattle.lucid_demand.proofs.AskedOperators.{first_refused, first_lacks, first_operation, first_absent, both_pass, second_refused, row_with_refused, second_lacks, both_given, made_given, made_absent}
+use Rattle.lucid_demand.proofs.Common.{None, sym, subst, OnOk, Evaluating, gave, AsksIn, SetsPart}
+use Rattle.std.proofs.Common.{◌≡◌, ◌<◌}
+use Rattle.std.specs.Prelude.{IfSome, Ok, Err}
+use Rattle.lucid_demand.specs.Leading.{LeadsTo, OnDone}
+use Rattle.lucid_demand.proofs.TakenParts.{err_is}
+use Rattle.lucid_demand.proofs.AskedParts.{on_ok}
+use Rattle.lucid_demand.proofs.Leading.{leads_here, leads_on, open_leads}
 use Rattle.lucid_demand.proofs.turn.Evaluation.ask_operator.Goals as goal
 
--- ---- it is no operation
+pub loop-next-init : goal.loop-next-init
+loop-next-init g c = (
+  leads_here c.args.self.now (record { part = c.args.part; task = c.args.task; key = c.args.key }) c.requires.idle c.requires.there c.requires.known,
+  c.requires.open,
+)
 
-pub returns-in_default-clause-asks : goal.returns-in_default-clause-asks
-returns-in_default-clause-asks g c = λ i x may.
-    subst (λ o. AsksIn i.demand c.args.self.now c.ask_row.new.self i.world c.args.part (gave c.ask_row.result o)) (sym c.requires.open)
-    (c.ask_row.ensures.asks i x may)
+-- It is refused.
+pub returns-in_err-next-clause-asks : goal.returns-in_err-next-clause-asks
+returns-in_err-next-clause-asks g c = λ i x may.
+    subst (λ r. AsksIn i.demand c.args.self.now c.ask_operation.new.self i.world c.args.part (gave r c.ask_operation.new.answer))
+    (sym (err_is c.from_residual.result c.in_err-next.field-0.0 c.from_residual.ensures.1))
+    (c.loop-next.invariant.0.asks i c.ask_operation.new.self (Err c.in_err-next.field-0.0) (c.in_err-next.ensures.asks i) x may)
 
--- ---- the first argument isn't told
-
-pub returns-in_err-value-clause-asks : goal.returns-in_err-value-clause-asks
-returns-in_err-value-clause-asks g c = λ i x may.
-    let is : IsOperation c.args.self.now.engine.table c.args.task.node c.in-Some.operation =
-    subst (λ o. IfSome o (IsOperation c.args.self.now.engine.table c.args.task.node)) c.in-Some.is c.operation.ensures in
-    first_refused c.args.self.now c.look.new.self c.args.part c.args.task c.args.key c.in-Some.operation is c.look.ensures.looks
-    (gave c.from_residual.result c.args.answer.now)
-    (gave_err c.from_residual.result c.args.answer.now NoMemory c.from_residual.ensures.1) i x may
-
-pub returns-in_err-slot-in-Absent-clause-asks : goal.returns-in_err-slot-in-Absent-clause-asks
-returns-in_err-slot-in-Absent-clause-asks g c = λ i x may.
-    let is : IsOperation c.args.self.now.engine.table c.args.task.node c.in-Some.operation =
-    subst (λ o. IfSome o (IsOperation c.args.self.now.engine.table c.args.task.node)) c.in-Some.is c.operation.ensures in
-    first_lacks c.args.self.now c.look.new.self c.args.part c.args.task c.args.key c.in-Some.operation is c.look.ensures.looks _
-    (gave c.from_residual-in_err-slot-in-Absent.result c.args.answer.now) i x
-    (λ m. row_refused _ c.look.new.self c.self.view_is i.demand i.world c.args.part x c.args.task c.args.key m c.ask.new.self
-    (gave c.from_residual-in_err-slot-in-Absent.result c.args.answer.now)
-    (gave_err c.from_residual-in_err-slot-in-Absent.result c.args.answer.now NoMemory c.from_residual-in_err-slot-in-Absent.ensures.1)) may
-
-pub returns-in-Absent-clause-asks : goal.returns-in-Absent-clause-asks
-returns-in-Absent-clause-asks g c = λ i x may.
-    let is : IsOperation c.args.self.now.engine.table c.args.task.node c.in-Some.operation =
-    subst (λ o. IfSome o (IsOperation c.args.self.now.engine.table c.args.task.node)) c.in-Some.is c.operation.ensures in
-    let absent : IsNamedAim c.look.new.self (record c.args.task { node = c.in-Some.operation.first }) c.in-Absent.aim × (value_at c.look.new.self.engine.stored c.in-Absent.aim.key ≡ None) =
-    subst (λ z. IsSeenAs c.look.new.self (record c.args.task { node = c.in-Some.operation.first }) z) c.in-Absent.is c.in_ok-value.ensures.seen in
-    subst (λ o. AsksIn i.demand c.args.self.now c.ask_within.new.self i.world c.args.part (gave c.ask_within.result o)) (sym c.requires.open)
-    (first_lacks c.args.self.now c.look.new.self c.args.part c.args.task c.args.key c.in-Some.operation is c.look.ensures.looks
-    c.ask_within.new.self (gave c.ask_within.result None) i x
-    (λ m. first_absent i.demand _ c.look.new.self c.self.view_is i.world c.args.part x c.args.task c.args.key m c.in-Some.operation
-    (first_operation c.args.self.now c.look.new.self c.args.part c.args.task c.args.key c.in-Some.operation is c.look.ensures.looks) c.ask.new.self
-    c.in_ok-slot-in-Absent.slot c.in_ok-slot-in-Absent.ensures.newest c.in_ok-slot-in-Absent.ensures.rows c.in-Absent.aim absent.1 c.ask_within.new.self
-    (gave c.ask_within.result None) (c.ask_within.ensures.asks i)) may)
-
-pub returns-in-Other-clause-asks : goal.returns-in-Other-clause-asks
-returns-in-Other-clause-asks g c = λ i x may.
-    let is : IsOperation c.args.self.now.engine.table c.args.task.node c.in-Some.operation =
-    subst (λ o. IfSome o (IsOperation c.args.self.now.engine.table c.args.task.node)) c.in-Some.is c.operation.ensures in
-    subst (λ o. AsksIn i.demand c.args.self.now c.ask_row-in-Other.new.self i.world c.args.part (gave c.ask_row-in-Other.result o)) (sym c.requires.open)
-    (first_lacks c.args.self.now c.look.new.self c.args.part c.args.task c.args.key c.in-Some.operation is c.look.ensures.looks
-    c.ask_row-in-Other.new.self (gave c.ask_row-in-Other.result None) i x (c.ask_row-in-Other.ensures.asks i x) may)
-
--- ---- the second isn't
-
-pub returns-in_err-value-2-clause-asks : goal.returns-in_err-value-2-clause-asks
-returns-in_err-value-2-clause-asks g c = λ i x may.
-    let is : IsOperation c.args.self.now.engine.table c.args.task.node c.in-Some.operation =
-    subst (λ o. IfSome o (IsOperation c.args.self.now.engine.table c.args.task.node)) c.in-Some.is c.operation.ensures in
-    let first : IsTold c.look.new.self (record c.args.task { node = c.in-Some.operation.first }) c.in-Told.value =
-    subst (λ z. IsSeenAs c.look.new.self (record c.args.task { node = c.in-Some.operation.first }) z) c.in-Told.is c.in_ok-value.ensures.seen in
-    second_refused c.args.self.now c.look.new.self c.args.part c.args.task c.args.key c.in-Some.operation is c.look.ensures.looks c.in-Told.value first
-    c.drop_values.new.self c.look-2.new.self c.drop_values.ensures.turned c.drop_values.ensures.rows c.look-2.ensures.looks
-    (gave c.from_residual-in_err-value-2.result c.args.answer.now)
-    (gave_err c.from_residual-in_err-value-2.result c.args.answer.now NoMemory c.from_residual-in_err-value-2.ensures.1) i x may
-
-pub returns-in_err-slot-in-Absent-2-clause-asks : goal.returns-in_err-slot-in-Absent-2-clause-asks
-returns-in_err-slot-in-Absent-2-clause-asks g c = λ i x may.
-    let is : IsOperation c.args.self.now.engine.table c.args.task.node c.in-Some.operation =
-    subst (λ o. IfSome o (IsOperation c.args.self.now.engine.table c.args.task.node)) c.in-Some.is c.operation.ensures in
-    let first : IsTold c.look.new.self (record c.args.task { node = c.in-Some.operation.first }) c.in-Told.value =
-    subst (λ z. IsSeenAs c.look.new.self (record c.args.task { node = c.in-Some.operation.first }) z) c.in-Told.is c.in_ok-value.ensures.seen in
-    row_with_refused c.args.self.now c.look.new.self c.args.part c.args.task c.args.key c.in-Some.operation is c.look.ensures.looks c.in-Told.value first
-    c.drop_values.new.self c.look-2.new.self c.drop_values.ensures.turned c.drop_values.ensures.rows c.look-2.ensures.looks
-    c.ask_row_with.new.self c.ask_row_with.ensures.only (gave c.from_residual-in_err-slot-in-Absent-2.result c.args.answer.now)
-    (gave_err c.from_residual-in_err-slot-in-Absent-2.result c.args.answer.now NoMemory c.from_residual-in_err-slot-in-Absent-2.ensures.1) i x may
-
-pub returns-in-Absent-2-clause-asks : goal.returns-in-Absent-2-clause-asks
-returns-in-Absent-2-clause-asks g c = λ i x may.
-    let is : IsOperation c.args.self.now.engine.table c.args.task.node c.in-Some.operation =
-    subst (λ o. IfSome o (IsOperation c.args.self.now.engine.table c.args.task.node)) c.in-Some.is c.operation.ensures in
-    let first : IsTold c.look.new.self (record c.args.task { node = c.in-Some.operation.first }) c.in-Told.value =
-    subst (λ z. IsSeenAs c.look.new.self (record c.args.task { node = c.in-Some.operation.first }) z) c.in-Told.is c.in_ok-value.ensures.seen in
-    let absent : IsNamedAim c.look-2.new.self (record c.args.task { node = c.in-Some.operation.second }) c.in-Absent-2.aim × (value_at c.look-2.new.self.engine.stored c.in-Absent-2.aim.key ≡ None) =
-    subst (λ z. IsSeenAs c.look-2.new.self (record c.args.task { node = c.in-Some.operation.second }) z) c.in-Absent-2.is c.in_ok-value-2.ensures.seen in
-    subst (λ o. AsksIn i.demand c.args.self.now c.ask_within-in-Absent-2.new.self i.world c.args.part (gave c.ask_within-in-Absent-2.result o)) (sym c.requires.open)
-    (second_lacks c.args.self.now c.look.new.self c.args.part c.args.task c.args.key c.in-Some.operation is c.look.ensures.looks c.in-Told.value first
-    c.drop_values.new.self c.look-2.new.self c.drop_values.ensures.turned c.drop_values.ensures.rows c.look-2.ensures.looks
-    c.ask_within-in-Absent-2.new.self (gave c.ask_within-in-Absent-2.result None) i x
-    (λ m p a. made_absent c.look-2.new.self c.ask_row_with.new.self c.args.part c.in_ok-slot-in-Absent-2.slot c.args.task c.args.key c.in-Told.value
-    c.in_ok-slot-in-Absent-2.ensures.rows c.ask_row_with.ensures.only i.demand i.world x c.in-Some.operation m p a c.in-Absent-2.aim absent.1
-    c.ask_within-in-Absent-2.new.self (gave c.ask_within-in-Absent-2.result None) (c.ask_within-in-Absent-2.ensures.asks i)) may)
-
-pub returns-in_err-ask_row_with-in-Other-2-clause-asks : goal.returns-in_err-ask_row_with-in-Other-2-clause-asks
-returns-in_err-ask_row_with-in-Other-2-clause-asks g c = λ i x may.
-    let is : IsOperation c.args.self.now.engine.table c.args.task.node c.in-Some.operation =
-    subst (λ o. IfSome o (IsOperation c.args.self.now.engine.table c.args.task.node)) c.in-Some.is c.operation.ensures in
-    let first : IsTold c.look.new.self (record c.args.task { node = c.in-Some.operation.first }) c.in-Told.value =
-    subst (λ z. IsSeenAs c.look.new.self (record c.args.task { node = c.in-Some.operation.first }) z) c.in-Told.is c.in_ok-value.ensures.seen in
-    row_with_refused c.args.self.now c.look.new.self c.args.part c.args.task c.args.key c.in-Some.operation is c.look.ensures.looks c.in-Told.value first
-    c.drop_values.new.self c.look-2.new.self c.drop_values.ensures.turned c.drop_values.ensures.rows c.look-2.ensures.looks
-    c.ask_row_with-in-Other-2.new.self c.ask_row_with-in-Other-2.ensures.only (gave c.from_residual-in_err-ask_row_with-in-Other-2.result c.args.answer.now)
-    (gave_err c.from_residual-in_err-ask_row_with-in-Other-2.result c.args.answer.now NoMemory c.from_residual-in_err-ask_row_with-in-Other-2.ensures.1) i x may
-
-pub returns-in-Other-2-clause-asks : goal.returns-in-Other-2-clause-asks
-returns-in-Other-2-clause-asks g c = λ i x may.
-    let is : IsOperation c.args.self.now.engine.table c.args.task.node c.in-Some.operation =
-    subst (λ o. IfSome o (IsOperation c.args.self.now.engine.table c.args.task.node)) c.in-Some.is c.operation.ensures in
-    let first : IsTold c.look.new.self (record c.args.task { node = c.in-Some.operation.first }) c.in-Told.value =
-    subst (λ z. IsSeenAs c.look.new.self (record c.args.task { node = c.in-Some.operation.first }) z) c.in-Told.is c.in_ok-value.ensures.seen in
-    second_lacks c.args.self.now c.look.new.self c.args.part c.args.task c.args.key c.in-Some.operation is c.look.ensures.looks c.in-Told.value first
-    c.drop_values.new.self c.look-2.new.self c.drop_values.ensures.turned c.drop_values.ensures.rows c.look-2.ensures.looks
-    c.ask_row_with-in-Other-2.new.self (Ok c.args.answer.now) i x
-    (λ m p a. made_given c.look-2.new.self c.ask_row_with-in-Other-2.new.self c.args.part c.in_ok-ask_row_with-in-Other-2.field-0 c.args.task c.args.key c.in-Told.value
-    c.in_ok-ask_row_with-in-Other-2.ensures.rows c.ask_row_with-in-Other-2.ensures.only i.demand i.world x c.in-Some.operation m p a c.args.answer.now c.requires.open) may
-
--- ---- both are told
-
-pub returns-in_err-value-3-clause-asks : goal.returns-in_err-value-3-clause-asks
-returns-in_err-value-3-clause-asks g c = λ i x may.
-    let is : IsOperation c.args.self.now.engine.table c.args.task.node c.in-Some.operation =
-    subst (λ o. IfSome o (IsOperation c.args.self.now.engine.table c.args.task.node)) c.in-Some.is c.operation.ensures in
-    let first : IsTold c.look.new.self (record c.args.task { node = c.in-Some.operation.first }) c.in-Told.value =
-    subst (λ z. IsSeenAs c.look.new.self (record c.args.task { node = c.in-Some.operation.first }) z) c.in-Told.is c.in_ok-value.ensures.seen in
-    second_refused c.args.self.now c.look.new.self c.args.part c.args.task c.args.key c.in-Some.operation is c.look.ensures.looks c.in-Told.value first
-    c.drop_values.new.self c.look-2.new.self c.drop_values.ensures.turned c.drop_values.ensures.rows c.look-2.ensures.looks
-    (gave c.from_residual-in_err-value-3.result c.args.answer.now)
-    (gave_err c.from_residual-in_err-value-3.result c.args.answer.now NoMemory c.from_residual-in_err-value-3.ensures.1) i x may
-
+-- Nothing else is wanted.
 pub returns-clause-sets : goal.returns-clause-sets
 returns-clause-sets g c =
-    let is : IsOperation c.args.self.now.engine.table c.args.task.node c.in-Some.operation =
-    subst (λ o. IfSome o (IsOperation c.args.self.now.engine.table c.args.task.node)) c.in-Some.is c.operation.ensures in
-    let first : IsTold c.look.new.self (record c.args.task { node = c.in-Some.operation.first }) c.in-Told.value =
-    subst (λ z. IsSeenAs c.look.new.self (record c.args.task { node = c.in-Some.operation.first }) z) c.in-Told.is c.in_ok-value.ensures.seen in
-    on_ok c.give_at_once.result _ _ (sets_then c.args.self.now c.look-2.new.self c.give_at_once.new.self
-    (both_pass c.args.self.now c.look.new.self c.args.part c.args.task c.args.key c.in-Some.operation is c.look.ensures.looks c.in-Told.value first
-    c.drop_values.new.self c.look-2.new.self c.drop_values.ensures.turned c.drop_values.ensures.rows c.look-2.ensures.looks) c.args.part) c.give_at_once.ensures.sets
+    c.loop-next.invariant.0.sets c.ask_operation.new.self
+    (subst (λ o. OnDone (Ok o) (λ done. OnOk done (IfSome c.loop-next.wanted.part (SetsPart c.loop-next.self c.ask_operation.new.self)))) c.in_default.is
+    c.in_ok-next.ensures.sets)
+
+pub returns-clause-open : goal.returns-clause-open
+returns-clause-open g c =
+    open_leads c.args.self.now c.loop-next.self (record { part = c.args.part; task = c.args.task; key = c.args.key }) c.loop-next.wanted
+    c.loop-next.invariant.0 c.ask_operation.new.answer c.ask_operation.ensures.open
 
 pub returns-clause-asks : goal.returns-clause-asks
 returns-clause-asks g c = λ i x may.
-    let is : IsOperation c.args.self.now.engine.table c.args.task.node c.in-Some.operation =
-    subst (λ o. IfSome o (IsOperation c.args.self.now.engine.table c.args.task.node)) c.in-Some.is c.operation.ensures in
-    let first : IsTold c.look.new.self (record c.args.task { node = c.in-Some.operation.first }) c.in-Told.value =
-    subst (λ z. IsSeenAs c.look.new.self (record c.args.task { node = c.in-Some.operation.first }) z) c.in-Told.is c.in_ok-value.ensures.seen in
-    let second : IsTold c.look-2.new.self (record c.args.task { node = c.in-Some.operation.second }) c.in-Told-2.value =
-    subst (λ z. IsSeenAs c.look-2.new.self (record c.args.task { node = c.in-Some.operation.second }) z) c.in-Told-2.is c.in_ok-value-2.ensures.seen in
-    both_given c.args.self.now c.look.new.self c.args.part c.args.task c.args.key c.in-Some.operation is c.look.ensures.looks c.in-Told.value first
-    c.drop_values.new.self c.look-2.new.self c.drop_values.ensures.turned c.drop_values.ensures.rows c.look-2.ensures.looks c.in-Told-2.value second c.in_ok-value-3.value
-    c.in_ok-value-3.ensures c.give_at_once.new.self (gave c.give_at_once.result c.give_at_once.new.answer) i x (c.give_at_once.ensures.asks i x c.args.task) may
+    c.loop-next.invariant.0.asks i c.ask_operation.new.self (Ok c.ask_operation.new.answer)
+    (λ y m. subst (λ o. OnDone (Ok o)
+    (λ done. AsksIn i.demand c.loop-next.self c.ask_operation.new.self i.world c.loop-next.wanted.part (gave done c.ask_operation.new.answer)))
+    c.in_default.is (c.in_ok-next.ensures.asks i y m)) x may
+
+-- What is wanted next is no such operator.
+pub returns-then-not-may_be_told-clause-asks : goal.returns-then-not-may_be_told-clause-asks
+returns-then-not-may_be_told-clause-asks g c = λ i x may.
+    let next : LeadsTo c.loop-next.self c.ask_operation.new.self c.loop-next.wanted c.in-Some.next
+    × (c.in-Some.next.task.depth < c.loop-next.wanted.task.depth) × (c.ask_operation.new.answer ≡ None) =
+    subst (λ o. IfSome o (λ n. LeadsTo c.loop-next.self c.ask_operation.new.self c.loop-next.wanted n × (n.task.depth < c.loop-next.wanted.task.depth)
+    × (c.ask_operation.new.answer ≡ None))) c.in-Some.is c.in_ok-next.ensures.next in
+    (leads_on c.args.self.now c.loop-next.self c.ask_operation.new.self (record { part = c.args.part; task = c.args.task; key = c.args.key })
+    c.loop-next.wanted c.in-Some.next c.loop-next.invariant.0 next.0).asks i c.ask_other.new.self (gave c.ask_other.result c.ask_other.new.answer)
+    (c.ask_other.ensures.asks i) x may
+
+-- It is one.
+pub loop-next-preserved : goal.loop-next-preserved
+loop-next-preserved g c =
+    let next : LeadsTo c.loop-next.self c.ask_operation.new.self c.loop-next.wanted c.in-Some.next
+    × (c.in-Some.next.task.depth < c.loop-next.wanted.task.depth) × (c.ask_operation.new.answer ≡ None) =
+    subst (λ o. IfSome o (λ n. LeadsTo c.loop-next.self c.ask_operation.new.self c.loop-next.wanted n × (n.task.depth < c.loop-next.wanted.task.depth)
+    × (c.ask_operation.new.answer ≡ None))) c.in-Some.is c.in_ok-next.ensures.next in (
+      leads_on c.args.self.now c.loop-next.self c.ask_operation.new.self (record { part = c.args.part; task = c.args.task; key = c.args.key })
+          c.loop-next.wanted c.in-Some.next c.loop-next.invariant.0 next.0,
+      next.2,
+    )
