@@ -103,7 +103,6 @@ impl<R: Retire, S: Pick> Evaluation<R, S> {
         ensures keeps { KeepsKnown self.old.engine.known self.new.engine.known }
         ensures there { IfOk result (λ body. body.node < length self.new.engine.table.nodes) }
         ensures known { IfOk result (λ body. IsKnown self.new.engine.known body.tag) }
-        ensures lower { IfOk result (λ body. body.depth < task.depth) }
         ensures goes_on { IfOk result (GoesOnWith self.old self.new task aim) }
         ensures refused { IfErr result (IsRefused self.old self.new task aim) }
     {

@@ -29,6 +29,10 @@ struct Operation {
     second: u32,
 }
 
+// So many operators are looked at in one step. Without a limit `x + f(x + 1)`, where a call asks for the next one before x is computed, would have a row at
+// each call for the x of every call round it.
+const MOST_OPERATORS: u32 = 2;
+
 // A task that is asked for, for a part or for the demand's answer. The body of a reference has its key.
 #[derive(Clone, Copy)]
 struct Wanted {
@@ -61,7 +65,7 @@ enum Argument {
 impl<R: Retire, S: Pick> Evaluation<R, S> {
     /// Asks for a task that doesn't move the point, for a part or for the demand's answer, which is the body of a reference where there is a key.
     /// An operator whose two arguments are told is applied. Else the task has a row, which has the first argument where that was told; and the body of
-    /// a name that was looked up and isn't held is asked for at once, in the same way where it is such an operator.
+    /// a name that was looked up and isn't held is asked for at once, in the same way where it is such an operator, but for few in a row.
     #[inline(never)]
     pub(crate) fn ask_operator(
         &mut self,
@@ -79,13 +83,16 @@ impl<R: Retire, S: Pick> Evaluation<R, S> {
         ensures asks { (i : DemandIn) (x : Task) → MayHaveRow i.demand self.old i.world part x task key → AsksIn i.demand self.old self.new i.world part (gave result answer.new) }
     {
         let mut wanted = Wanted { part, task, key };
-        while let Some(next) = self.ask_operation(wanted, answer)? {
+        for _ in 0..MOST_OPERATORS {
+            let Some(next) = self.ask_operation(wanted, answer)? else {
+                return Ok(());
+            };
             if !self.may_be_told(next.task.node) {
                 return self.ask_other(next, answer);
             }
             wanted = next;
         }
-        Ok(())
+        self.ask_other(wanted, answer)
     }
 
     // The same, but that the body of a name that isn't held is given back as what is wanted next. No look is made twice: the row's own turn would look
@@ -104,7 +111,7 @@ impl<R: Retire, S: Pick> Evaluation<R, S> {
         ensures open { IfSome wanted.part (λ p. answer.new ≡ None) }
         ensures asks { (i : DemandIn) (x : Task) → MayHaveRow i.demand self.old i.world wanted.part x wanted.task wanted.key
             → OnDone result (λ done. AsksIn i.demand self.old self.new i.world wanted.part (gave done answer.new)) }
-        ensures next { IfOk result (λ next. IfSome next (λ n. LeadsTo self.old self.new wanted n × (n.task.depth < wanted.task.depth) × (answer.new ≡ None))) }
+        ensures next { IfOk result (λ next. IfSome next (λ n. LeadsTo self.old self.new wanted n × (answer.new ≡ None))) }
     {
         let Wanted { part, task, key } = wanted;
         let Some(operation) = self.operation(task.node) else {

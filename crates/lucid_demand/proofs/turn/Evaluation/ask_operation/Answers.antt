@@ -1,5 +1,5 @@
 use Rattle.lucid_demand.proofs.Common.{None, refl, sym, subst, value_at, Evaluating, AsksIn, gave, NoMemory}
-use Rattle.std.proofs.Common.{◌≡◌, ◌<◌, Some}
+use Rattle.std.proofs.Common.{◌≡◌, Some}
 use Rattle.std.specs.Prelude.{IfSome, Ok, Err}
 use Rattle.lucid_tasks.specs.Rows.{IsIdlePart}
 use Rattle.lucid_demand.specs.Naming.{IsNamedAim, MayHaveRow}
@@ -59,7 +59,7 @@ returns-in-Absent-clause-next g c =
     subst (λ o. IfSome o (IsOperation c.args.self.now.engine.table c.args.wanted.task.node)) c.in-Some.is c.operation.ensures in
     let absent : IsNamedAim c.look.new.self (record c.args.wanted.task { node = c.in-Some.operation.first }) c.in-Absent.aim × (value_at c.look.new.self.engine.stored c.in-Absent.aim.key ≡ None) =
     subst (λ z. IsSeenAs c.look.new.self (record c.args.wanted.task { node = c.in-Some.operation.first }) z) c.in-Absent.is c.in_ok-value.ensures.seen in
-    subst (λ n. LeadsTo c.args.self.now c.body_of.new.self c.args.wanted n × (n.task.depth < c.args.wanted.task.depth) × (c.args.answer.now ≡ None))
+    subst (λ n. LeadsTo c.args.self.now c.body_of.new.self c.args.wanted n × (c.args.answer.now ≡ None))
     (sym c.for_part.ensures) (
       record {
         for_part = any_part c.args.wanted.part (record { slot = c.in_ok-slot-in-Absent.slot; index = 0 });
@@ -81,7 +81,6 @@ returns-in-Absent-clause-next g c =
             (λ refers none. c.in_ok-body-in-Absent.ensures.goes_on i (Some (record { slot = c.in_ok-slot-in-Absent.slot; index = 0 })) refers none new res
             (last (record c.args.wanted.task { node = c.in-Some.operation.first })))) may;
       },
-      c.in_ok-body-in-Absent.ensures.lower,
       c.requires.open,
     )
 
@@ -152,7 +151,7 @@ returns-in-Absent-2-clause-next g c =
     subst (λ z. IsSeenAs c.look.new.self (record c.args.wanted.task { node = c.in-Some.operation.first }) z) c.in-Told.is c.in_ok-value.ensures.seen in
     let absent : IsNamedAim c.look-2.new.self (record c.args.wanted.task { node = c.in-Some.operation.second }) c.in-Absent-2.aim × (value_at c.look-2.new.self.engine.stored c.in-Absent-2.aim.key ≡ None) =
     subst (λ z. IsSeenAs c.look-2.new.self (record c.args.wanted.task { node = c.in-Some.operation.second }) z) c.in-Absent-2.is c.in_ok-value-2.ensures.seen in
-    subst (λ n. LeadsTo c.args.self.now c.body_of-in-Absent-2.new.self c.args.wanted n × (n.task.depth < c.args.wanted.task.depth) × (c.args.answer.now ≡ None))
+    subst (λ n. LeadsTo c.args.self.now c.body_of-in-Absent-2.new.self c.args.wanted n × (c.args.answer.now ≡ None))
     (sym c.for_part-in-Absent-2.ensures) (
       record {
         for_part = any_part c.args.wanted.part (record { slot = c.in_ok-slot-in-Absent-2.slot; index = 1 });
@@ -178,7 +177,6 @@ returns-in-Absent-2-clause-next g c =
             (λ refers none. c.in_ok-body-in-Absent-2.ensures.goes_on i (Some (record { slot = c.in_ok-slot-in-Absent-2.slot; index = 1 })) refers none new res
             (last (record c.args.wanted.task { node = c.in-Some.operation.second })))) may;
       },
-      c.in_ok-body-in-Absent-2.ensures.lower,
       c.requires.open,
     )
 

@@ -41,18 +41,6 @@ returns-clause-there g c =
     (subst (λ (e : Evaluating). c.task.result.node < length e.engine.table.nodes) (sym c.self.view_is)
     (subst (λ (z : Task). z.node < length c.args.self.now.engine.table.nodes) (sym c.task.ensures) c.requires.named.there.body))).2)
 
--- A task that moves on looks as deep as before.
-pub returns-clause-lower : goal.returns-clause-lower
-returns-clause-lower g c =
-    let there : c.task.result.node < length (table_of c.self.inside.program).nodes =
-    subst (λ (e : Evaluating). c.task.result.node < length e.engine.table.nodes) (sym c.self.view_is)
-    (subst (λ (z : Task). z.node < length c.args.self.now.engine.table.nodes) (sym c.task.ensures) c.requires.named.there.body) in
-    let same : c.in_ok-moved_on.field-0.depth ≡ c.task.result.depth =
-    ap (λ (y : PlainTask). y.limit) c.in_ok-moved_on.ensures.passed
-    ∙ (passed-stands (table_of c.self.inside.program) c.self.inside.program.in_range (plain_task c.self.inside.tags c.task.result) there).3 in
-    let less : c.task.result.depth ≡ c.args.task.depth - 1 = ap (λ (z : Task). z.depth) c.task.ensures in
-    omega (arith, same, less, c.if-task-eq0.false)
-
 pub returns-clause-goes_on : goal.returns-clause-goes_on
 returns-clause-goes_on g c = λ i part may none.
     body_asked c.args.self.now c.args.self.now part c.args.task (found_aim c.args.aim)
