@@ -221,6 +221,14 @@ def a_room_of_what_is_in_use(run):
 
 
 @case
+def calls_without_end(run):
+    # At each of the 100,000 calls x waits behind the next one. Were what it needs of all calls round it asked for meanwhile, no memory would be enough.
+    run.source("f(1) where f(x) = x * f(x - 1); end")
+    run.needs_a_plain_command()
+    run.lucid("p", "--count=1", limits="ulimit -v 400000").must("", 5, "too deep at time 0\n")
+
+
+@case
 def a_search_over_more_lines_than_the_depth(run):
     run.source("n asa n eq 120000 where n = 0 fby n + 1; end")
     run.lucid("p", "--count=1").must("", 5, "too deep at time 0\n")
