@@ -31,6 +31,30 @@ module _ {X : Type 0} where
   pub end_of : (items after : List X) (x : X) (i : ℕ) → i ≡ length items → after ≡ items ++ x ∷ [] → after ≡ insert items i x
   end_of items after x i h is = is ∙ sym (inserted_end items x i h)
 
+  removed_before : (xs : List X) (x l : X) (i : ℕ) → i ≡ length xs → remove ((xs ++ x ∷ []) ++ l ∷ []) i ≡ xs ++ l ∷ []
+  removed_before [] x l zero e = refl
+  removed_before [] x l (suc i) e = absurd (omega (arith, e))
+  removed_before (y ∷ xs) x l zero e = absurd (omega (arith, e))
+  removed_before (y ∷ xs) x l (suc i) e = ap (λ ys. y ∷ ys) (removed_before xs x l i (omega (arith, e)))
+
+  before_at : (xs : List X) (x l d : X) (i : ℕ) → i ≡ length xs → get_or ((xs ++ x ∷ []) ++ l ∷ []) i d ≡ x
+  before_at [] x l d zero e = refl
+  before_at [] x l d (suc i) e = absurd (omega (arith, e))
+  before_at (y ∷ xs) x l d zero e = absurd (omega (arith, e))
+  before_at (y ∷ xs) x l d (suc i) e = before_at xs x l d i (omega (arith, e))
+
+  -- what is left, and the one that left, of a list whose last two left, and whose end came back
+  pub before_last_of : (left middle items after : List X) (x l : X) (i : ℕ) → items ≡ middle ++ l ∷ [] → middle ≡ left ++ x ∷ [] → after ≡ left ++ l ∷ []
+      → i + 2 ≡ length items → (after ≡ remove items i) × (x ≡ get_or items i x)
+  before_last_of left middle items after x l i e m a h =
+      let whole : items ≡ (left ++ x ∷ []) ++ l ∷ [] = e ∙ ap (λ ys. ys ++ l ∷ []) m in
+      let here : i ≡ length left =
+      (let all : length items ≡ length ((left ++ x ∷ []) ++ l ∷ []) = ap length whole in
+      let outer = length-append (left ++ x ∷ []) (l ∷ []) in
+      let inner = length-append left (x ∷ []) in
+      omega (arith, h, all, outer, inner)) in
+      (a ∙ sym (ap (λ ys. remove ys i) whole ∙ removed_before left x l i here), sym (ap (λ ys. get_or ys i x) whole ∙ before_at left x l x i here))
+
   inserted_before_end : (xs : List X) (x l : X) (i : ℕ) → i ≡ length xs → insert (xs ++ l ∷ []) i x ≡ (xs ++ x ∷ []) ++ l ∷ []
   inserted_before_end [] x l zero e = refl
   inserted_before_end [] x l (suc i) e = absurd (omega (arith, e))

@@ -174,6 +174,21 @@ impl Pool {
         self.values.remove(at).1
     }
 
+    // Takes out the value before the last, by which nothing else is moved.
+    #[inline(always)]
+    fn take_before_last(&mut self, at: usize, number: usize) -> Value
+        requires last { at + 2 ≡ length self.old.0 }
+        requires at { IsAt self.old.0 number at }
+        ensures value { Some result ≡ value_at self.old.0 number }
+        ensures values { SetsOne (value_at self.old.0) (value_at self.new.0) number None }
+        ensures room { self.old.1 ≤ self.new.1 }
+    {
+        let last = self.values.take_last();
+        let pair = self.values.take_last();
+        self.values.push_reserved(last);
+        pair.1
+    }
+
     // Takes the value of a number out, wherever it stands. Few stand before others, so it stands apart.
     #[inline(never)]
     fn take_searched(&mut self, number: usize) -> Option<Value>
@@ -182,6 +197,7 @@ impl Pool {
         ensures room { self.old.1 ≤ self.new.1 }
     {
         match self.place(number) {
+            Ok(at) if at + 2 == self.values.len() => Some(self.take_before_last(at, number)),
             Ok(at) => Some(self.take_inside(at, number)),
             Err(_) => None,
         }

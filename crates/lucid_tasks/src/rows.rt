@@ -236,7 +236,7 @@ impl Rows {
 
     // Drops the value of a part, if it has one.
     #[inline(always)]
-    fn drop_part(&mut self, slot: usize, index: u32)
+    pub(crate) fn drop_part(&mut self, slot: usize, index: u32)
         requires row { IsRow self.old slot }
         requires index { index < 3 }
         ensures { ChangesOnly self.old self.new slot (taken index) }

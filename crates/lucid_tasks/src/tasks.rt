@@ -177,6 +177,16 @@ impl Tasks {
         self.rows.take(part)
     }
 
+    /// Drops the value of a part, if it has one.
+    #[inline(always)]
+    pub fn discard(&mut self, part: Part)
+        requires row { IsRow self.old part.slot }
+        requires index { part.index < 3 }
+        ensures { ChangesOnly self.old self.new part.slot (taken part.index) }
+    {
+        self.rows.drop_part(part.slot, part.index);
+    }
+
     /// Whether a row waits for none of its parts.
     #[inline(always)]
     pub fn is_ready(&self, slot: usize) -> bool
