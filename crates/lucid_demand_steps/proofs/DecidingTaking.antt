@@ -24,21 +24,22 @@ use Rattle.lucid_demand_steps.specs.Parts.{moved_by}
 use Rattle.lucid_demand_steps.specs.Decisions.{RowHas, ComesTo}
 use Rattle.lucid_demand_steps.specs.declared.decision.Decision.{Decision}
 use Rattle.lucid_demand_steps.specs.declared.decision.Decision.TheVariants.{Part}
-use Rattle.lucid_demand_steps.specs.Taken.{place_of, Leads, IsLook, MayTake, IsFormRow, IsAskFor, settled}
+use Rattle.lucid_demand_steps.specs.Taken.{place_of, parts_at, Leads, IsLook, MayTake, IsFormRow, IsAskFor, settled}
+use Rattle.lucid_demand_steps.proofs.FormNodes.{number_of_part}
 use Rattle.lucid_demand_steps.proofs.Got.{value_is_got, none_is_idle}
 use Rattle.lucid_demand_steps.proofs.Starting.{StartFits, StartsRight, IsStill, start_fits}
 
-module _ (T : Table) (known : List Context) (forest : List (Option TaskRow)) (slot : ℕ) (task : Task) (its : TaskRow) (f : Form) (parts : List ℕ)
-    (h : IsFormRow T known forest slot task its f parts) where
+module _ (T : Table) (known : List Context) (forest : List (Option TaskRow)) (slot : ℕ) (task : Task) (its : TaskRow) (f : Form)
+    (h : IsFormRow T known forest slot task its f) where
   abbrev r : PlainRow
   r = plain_row known its
 
   -- the row's own task
-  own : IsFormRow T known forest slot its.task its f parts
-  own = subst (λ x. IsFormRow T known forest slot x its f parts) (sym h.ready.is_task) h
+  own : IsFormRow T known forest slot its.task its f
+  own = subst (λ x. IsFormRow T known forest slot x its f) (sym h.ready.is_task) h
 
-  part_is : (i : ℕ) → i < part_count f → part_number T its.task.node i ≡ Some (get_or parts i 0)
-  part_is i low = own.numbers i low ∙ slice_get-get_or parts i 0 (omega (arith, low, h.count))
+  part_is : (i : ℕ) → i < part_count f → part_number T its.task.node i ≡ Some (get_or (parts_at T its.task.node) i 0)
+  part_is i low = number_of_part T its.task.node i ∙ slice_get-get_or (parts_at T its.task.node) i 0 (omega (arith, low, own.count))
 
   -- what is got of a part is its value
   got_none : (i : ℕ) → got_of forest (record { slot = slot; index = i }) ≡ None → value_of_part r i ≡ None
@@ -62,12 +63,14 @@ module _ (T : Table) (known : List Context) (forest : List (Option TaskRow)) (sl
   on_by x least k v l has way = and_then (v ∷ []) way (record { index = x.part; look = l; value = has }, tt)
 
   -- a look that stands next may be asked for
-  asks : (x : PartAt) (least : ℕ) (k : PlainValue → Plan) → Leads f r (look x.part x.time x.space least k) → IsLook f r x least → x.part < length parts
-      → x.part < 3 → got_of forest (record { slot = slot; index = x.part }) ≡ None → (d : Decision) → IsAskFor task (get_or parts x.part 0) x d
+  asks : (x : PartAt) (least : ℕ) (k : PlainValue → Plan) → Leads f r (look x.part x.time x.space least k) → IsLook f r x least
+      → x.part < length (parts_at T task.node)
+      → x.part < 3 → got_of forest (record { slot = slot; index = x.part }) ≡ None → (d : Decision) → IsAskFor task (get_or (parts_at T task.node) x.part 0) x d
       → Justified T known r d
   unfolding comes
   asks x least k way l low few none d ask =
-      let mine : IsAskFor its.task (get_or parts x.part 0) x d = subst (λ y. IsAskFor y (get_or parts x.part 0) x d) (sym h.ready.is_task) ask in
+      let mine : IsAskFor its.task (get_or (parts_at T its.task.node) x.part 0) x d =
+      subst (λ y. IsAskFor y (get_or (parts_at T y.node) x.part 0) x d) (sym h.ready.is_task) ask in
       subst (Justified T known r) (sym mine.is) (
         record {
           stands_next = record { part = x.part; time = x.time; space = x.space; least = least } ∷ [];
@@ -99,8 +102,8 @@ module _ (T : Table) (known : List Context) (forest : List (Option TaskRow)) (sl
       let has : value_of_part r x.part ≡ Some (plain v) = got_some x.part v some in
       (few, (plain v, has, inl (comes (gives (plain v)) (on_by x 0 gives (plain v) it.fits has it.leads))))
 
-  pub asks_part : (y : Step) (x : PartAt) → y ≡ step.Part x → MayTake f r y → x.part < length parts → x.part < 3
-      → got_of forest (record { slot = slot; index = x.part }) ≡ None → (d : Decision) → IsAskFor task (get_or parts x.part 0) x d → Justified T known r d
+  pub asks_part : (y : Step) (x : PartAt) → y ≡ step.Part x → MayTake f r y → x.part < length (parts_at T task.node) → x.part < 3
+      → got_of forest (record { slot = slot; index = x.part }) ≡ None → (d : Decision) → IsAskFor task (get_or (parts_at T task.node) x.part 0) x d → Justified T known r d
   asks_part y x e may low few none d ask =
       let it : MayTake f r (step.Part x) = subst (MayTake f r) e may in asks x 0 gives it.leads it.fits low few none d ask
 
@@ -111,8 +114,8 @@ module _ (T : Table) (known : List Context) (forest : List (Option TaskRow)) (sl
       gives_own (judged (answer_of (plain v)))
       (subst (λ w. Leads f r (gives w)) (truth_told (plain v)) (on_by x 0 (λ w. gives (only_truth w)) (plain v) it.fits (got_some x.part v some) it.leads))
 
-  pub asks_judged : (y : Step) (x : PartAt) → y ≡ step.Judge x → MayTake f r y → x.part < length parts → x.part < 3
-      → got_of forest (record { slot = slot; index = x.part }) ≡ None → (d : Decision) → IsAskFor task (get_or parts x.part 0) x d → Justified T known r d
+  pub asks_judged : (y : Step) (x : PartAt) → y ≡ step.Judge x → MayTake f r y → x.part < length (parts_at T task.node) → x.part < 3
+      → got_of forest (record { slot = slot; index = x.part }) ≡ None → (d : Decision) → IsAskFor task (get_or (parts_at T task.node) x.part 0) x d → Justified T known r d
   asks_judged y x e may low few none d ask =
       let it : MayTake f r (step.Judge x) = subst (MayTake f r) e may in asks x 0 (λ w. gives (only_truth w)) it.leads it.fits low few none d ask
 
@@ -140,7 +143,7 @@ module _ (T : Table) (known : List Context) (forest : List (Option TaskRow)) (sl
   -- a form that a row has doesn't only move the point
   pub is_still : IsStill f r
   is_still i u s e low =
-      none-some (record r.task { node = get_or parts i 0; time = u; space = s })
+      none-some (record r.task { node = get_or (parts_at T its.task.node) i 0; time = u; space = s })
       (sym own.ready.still ∙ ap (moved_by T r.task) own.form
       ∙ ap (option_and_then {T = PartAt} (λ q. option_map (λ n. record r.task { node = n; time = q.time; space = q.space }) (part_number T its.task.node q.part))) e
       ∙ ap (option_map (λ n. record r.task { node = n; time = u; space = s })) (part_is i low))
@@ -177,8 +180,8 @@ module _ (T : Table) (known : List Context) (forest : List (Option TaskRow)) (sl
         })
 
     -- which may be asked for.
-    pub asks_first : (l : PartAt) → start_of f p ≡ start.Look l → l.part < length parts → got_of forest (record { slot = slot; index = l.part }) ≡ None
-        → (d : Decision) → IsAskFor task (get_or parts l.part 0) l d → Justified T known r d
+    pub asks_first : (l : PartAt) → start_of f p ≡ start.Look l → l.part < length (parts_at T task.node) → got_of forest (record { slot = slot; index = l.part }) ≡ None
+        → (d : Decision) → IsAskFor task (get_or (parts_at T task.node) l.part 0) l d → Justified T known r d
     asks_first l e low none d ask =
         let right : StartsRight f r l = first_fits (start.Look l) (there (start.Look l) e) in
         asks l (least_of f (place_of r)) (λ w. step_plan f (place_of r) (step_after f (place_of r) (answer_of w)))

@@ -1,5 +1,5 @@
 -- When a ready row may take a step of its form, and what a row with one node decides.
-use Rattle.std.specs.Prelude.{◌≡◌, ℕ, ◌<◌, Bool, true, List, Option, Some, length, slice_get}
+use Rattle.std.specs.Prelude.{◌≡◌, ℕ, ◌<◌, Bool, true, List, [], Option, Some, length, option_map, unwrap_or}
 use Rattle.lucid_value.specs.Plain.{truth}
 use Rattle.lucid_tree.specs.declared.form.Form.{Form}
 use Rattle.lucid_tree.specs.Forms.{part_count}
@@ -18,7 +18,7 @@ use Rattle.lucid_tags.specs.Known.{IsKnown}
 use Rattle.lucid_tasks.specs.declared.Task.{Task}
 use Rattle.lucid_tasks.specs.Rows.{TaskRow}
 use Rattle.lucid_equations.specs.Nodes.{PlainNodes, row}
-use Rattle.lucid_equations.specs.Rows.{row_at, node_at, node_by, part_number}
+use Rattle.lucid_equations.specs.Rows.{row_at, node_at, node_by, parts}
 use Rattle.lucid_equations.specs.Ranges.{NodeIsInRange, sizes}
 use Rattle.lucid_equations.specs.declared.rows.Node.{Node}
 use Rattle.lucid_equations.specs.declared.table.Table.{Table}
@@ -63,14 +63,16 @@ pub record MayTake (f : Form) (r : PlainRow) (x : Step) : Type 0 where
   pub leads : Leads f r (step_plan f (place_of r) x)
   pub fits : Fits f r x
 
--- A ready row whose node is a form over streams with these parts.
-pub record IsFormRow (T : Table) (known : List Context) (forest : List (Option TaskRow)) (slot : ℕ) (task : Task) (its : TaskRow) (f : Form) (parts : List ℕ)
-    : Type 0 where
+-- the parts of the node of a number, by their numbers; none where there is no such node
+abbrev pub parts_at : Table → ℕ → List ℕ
+parts_at T id = unwrap_or (option_map parts (row_at T id)) []
+
+-- A ready row whose node is a form over streams, with as many parts as the form has.
+pub record IsFormRow (T : Table) (known : List Context) (forest : List (Option TaskRow)) (slot : ℕ) (task : Task) (its : TaskRow) (f : Form) : Type 0 where
   pub ready : IsReadyRow T known forest slot task its
   pub nodes : PlainNodes
   pub form : node_at T task.node ≡ row (stream f) nodes
-  pub count : length parts ≡ part_count f
-  pub numbers : (i : ℕ) → i < part_count f → part_number T task.node i ≡ slice_get parts i
+  pub count : length (parts_at T task.node) ≡ part_count f
 
 -- It is asked for a part that is this node, at its time and space, in the context of the row's task and at its limit.
 pub record IsAskFor (task : Task) (node : ℕ) (x : PartAt) (d : Decision) : Type 0 where

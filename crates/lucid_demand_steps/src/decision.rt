@@ -8,7 +8,6 @@ ghost use Rattle.lucid_equations.specs.Steps.{StepLooks};
 ghost use Rattle.lucid_tags.specs.Contexts.{Context};
 ghost use Rattle.lucid_tasks.specs.Rows.{TaskRow, IsRow, row_at, got_of};
 ghost use Rattle.lucid_equations.specs.Programs.{table_of};
-ghost use Rattle.lucid_equations.specs.declared.table.Table.{Table};
 ghost use Rattle.lucid_demand_steps.specs.Tasks.{plain_row};
 ghost use Rattle.lucid_demand_steps.specs.Justified.{Justified};
 ghost use Rattle.lucid_demand_steps.specs.Ready.{MayDecide, argument_of};
@@ -126,7 +125,7 @@ struct Ready {
 }
 
 impl Ready {
-    ghost use Rattle.lucid_demand_steps.specs.Taken.{place_of, IsAskFor, IsFormRow, MayTake, DecidesFor, DecidesIn};
+    ghost use Rattle.lucid_demand_steps.specs.Taken.{place_of, parts_at, IsAskFor, IsFormRow, MayTake, DecidesFor, DecidesIn};
 
     // Where the row is taken, and where its search stands.
     #[inline(always)]
@@ -147,12 +146,14 @@ impl Ready {
 
     // Asks for a part, at a time and a space.
     #[inline(always)]
-    fn ask(self, parts: &[u32], at: PartAt) -> Decision
-        requires part { at.part < length parts.now }
+    fn ask(self, program: &Program, at: PartAt) -> Decision
+        requires node { self.task.node < length (table_of program.now).nodes }
+        requires part { at.part < length (parts_at (table_of program.now) self.task.node) }
         requires space { at.space ≤ last }
-        ensures { IsAskFor self.task (get_or parts.now at.part 0) at result }
+        ensures { IsAskFor self.task (get_or (parts_at (table_of program.now) self.task.node) at.part 0) at result }
     {
-        let node = parts[at.part as usize];
+        let parts = program.node(self.task.node).parts();
+        let node = parts.as_slice()[at.part as usize];
         Decision::Ask {
             index: at.part,
             task: at_point(self.task, node, at.time, at.space),
@@ -161,21 +162,22 @@ impl Ready {
 
     // What the row does whose form takes a step.
     #[inline(always)]
-    fn take(self, tasks: &Tasks, parts: &[u32], step: Step) -> Decision
+    fn take(self, program: &Program, tasks: &Tasks, step: Step) -> Decision
         requires row { IsRow tasks.now self.slot }
-        requires few { length parts.now ≤ 3 }
-        requires looks { StepLooks (length parts.now) step }
-        ensures { (T : Table) (known : List Context) (its : TaskRow) (f : Form) → IsFormRow T known tasks.now self.slot self.task its f parts.now
-            → MayTake f (plain_row known its) step → Justified T known (plain_row known its) result }
+        requires node { self.task.node < length (table_of program.now).nodes }
+        requires few { length (parts_at (table_of program.now) self.task.node) ≤ 3 }
+        requires looks { StepLooks (length (parts_at (table_of program.now) self.task.node)) step }
+        ensures { (known : List Context) (its : TaskRow) (f : Form) → IsFormRow (table_of program.now) known tasks.now self.slot self.task its f
+            → MayTake f (plain_row known its) step → Justified (table_of program.now) known (plain_row known its) result }
     {
         match step {
             Step::Part(at) => match tasks.got(self.slot, at.part) {
                 Some(_) => Decision::Part { index: at.part },
-                None => self.ask(parts, at),
+                None => self.ask(program, at),
             },
             Step::Judge(at) => match tasks.got(self.slot, at.part) {
                 Some(value) => settled(judged(Answer::of(value))),
-                None => self.ask(parts, at),
+                None => self.ask(program, at),
             },
             Step::Give(given) => settled(given),
             Step::On { seen } => Decision::LookOn { seen },
@@ -185,19 +187,20 @@ impl Ready {
 
     // What the row of a form over streams does, by the form's step where its search stands.
     #[inline(always)]
-    fn stream(self, tasks: &Tasks, form: Form, parts: &[u32]) -> Decision
+    fn stream(self, program: &Program, tasks: &Tasks, form: Form) -> Decision
         requires row { IsRow tasks.now self.slot }
-        requires count { length parts.now ≡ part_count form }
-        ensures { (T : Table) (known : List Context) (its : TaskRow) → IsFormRow T known tasks.now self.slot self.task its form parts.now
-            → Justified T known (plain_row known its) result }
+        requires node { self.task.node < length (table_of program.now).nodes }
+        requires count { length (parts_at (table_of program.now) self.task.node) ≡ part_count form }
+        ensures { (known : List Context) (its : TaskRow) → IsFormRow (table_of program.now) known tasks.now self.slot self.task its form
+            → Justified (table_of program.now) known (plain_row known its) result }
     {
         let place = self.place(tasks);
         match begin(form, place) {
             Start::Look(at) => match tasks.got(self.slot, at.part) {
-                Some(value) => self.take(tasks, parts, after(form, place, Answer::of(value))),
-                None => self.ask(parts, at),
+                Some(value) => self.take(program, tasks, after(form, place, Answer::of(value))),
+                None => self.ask(program, at),
             },
-            Start::Step(step) => self.take(tasks, parts, step),
+            Start::Step(step) => self.take(program, tasks, step),
         }
     }
 
@@ -287,12 +290,15 @@ pub fn decide(program: &Program, tasks: &Tasks, slot: usize) -> Decision
         Node::Input { stream } => ready.read(stream),
         Node::Apply { op, args } => ready.apply(program, tasks, op, args),
         Node::Refer { .. } | Node::Call { .. } => ready.refer(tasks),
-        // It goes as the forms below do, without the second match, as it is the form that comes most.
-        Node::If { test, yes, no } => ready.stream(tasks, Form::If, &[test, yes, no]),
+        // These go as the forms below do, without the second match: `if` comes most, and a search comes here once for each time it looks at.
+        Node::If { .. } => ready.stream(program, tasks, Form::If),
+        Node::Whenever { .. } => ready.stream(program, tasks, Form::Whenever),
+        Node::Asa { .. } => ready.stream(program, tasks, Form::Asa),
+        Node::Upon { .. } => ready.stream(program, tasks, Form::Upon),
         Node::Freeze { .. } => unreachable!(),
         // What only moves the point is passed before a row is made: of these, `next` and `succ` come here, at the last time and space.
         _ => match node.read() {
-            Some((form, parts)) => ready.stream(tasks, form, parts.as_slice()),
+            Some((form, _)) => ready.stream(program, tasks, form),
             None => unreachable!(),
         },
     }
