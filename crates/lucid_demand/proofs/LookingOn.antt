@@ -46,11 +46,11 @@ next_cursor c false n p =
 
 -- The row is ready at its next cursor, with its task.
 pub looked_ready : (now inside new : Evaluating) (one two : List (Option TaskRow)) (slot : ℕ) (c : Cursor) → inside ≡ now → new.engine ≡ inside.engine
-    → rows.ChangesOnly inside.rows one slot (rows.taken 0) → rows.ChangesOnly one two slot (rows.taken 1)
+    → rows.ChangesOnly inside.rows one slot (rows.taken 1) → rows.ChangesOnly one two slot (rows.taken 0)
     → rows.ChangesOnly two new.rows slot (rows.with_cursor c)
     → IsReadyTask now slot → IsReadyTask new slot
 looked_ready now inside new one two slot c same engine first second moved task = record {
-  ready = ap is_ready at ∙ sym (ap is_ready was) ∙ ready_after_take one two slot 1 second ∙ ready_after_take inside.rows one slot 0 first
+  ready = ap is_ready at ∙ sym (ap is_ready was) ∙ ready_after_take one two slot 0 second ∙ ready_after_take inside.rows one slot 1 first
       ∙ subst (λ z. IsTrue (is_ready (row_at z.rows slot))) (sym same) task.ready;
   there = λ r is.
       let own : rows.with_cursor c taken ≡ r = same_Some (rows.with_cursor c taken) r (sym at ∙ is) in
@@ -64,18 +64,18 @@ looked_ready now inside new one two slot c same engine first second moved task =
     row = ready_is_there inside.rows slot (subst (λ z. IsTrue (is_ready (row_at z.rows slot))) (sym same) task.ready)
 
     taken : TaskRow
-    taken = rows.taken 1 (rows.taken 0 row.0)
+    taken = rows.taken 0 (rows.taken 1 row.0)
 
     was : row_at two slot ≡ Some taken
-    was = changed_there one two slot (rows.taken 1) (rows.taken 0 row.0) second (changed_there inside.rows one slot (rows.taken 0) row.0 first row.1)
+    was = changed_there one two slot (rows.taken 0) (rows.taken 1 row.0) second (changed_there inside.rows one slot (rows.taken 1) row.0 first row.1)
 
     at : row_at new.rows slot ≡ Some (rows.with_cursor c taken)
     at = changed_there two new.rows slot (rows.with_cursor c) taken moved was
 
 -- It looks on at less cost, and may step again.
 pub looked : (i : DemandIn) (now inside : Evaluating) (new one two : List (Option TaskRow)) (slot : ℕ) (seen : Bool) (cursor c : Cursor) → inside ≡ now
-    → option_map (λ row. row.cursor) (row_at inside.rows slot) ≡ Some cursor → c ≡ looked_on cursor seen → rows.ChangesOnly inside.rows one slot (rows.taken 0)
-    → rows.ChangesOnly one two slot (rows.taken 1) → rows.ChangesOnly two new slot (rows.with_cursor c)
+    → option_map (λ row. row.cursor) (row_at inside.rows slot) ≡ Some cursor → c ≡ looked_on cursor seen → rows.ChangesOnly inside.rows one slot (rows.taken 1)
+    → rows.ChangesOnly one two slot (rows.taken 0) → rows.ChangesOnly two new slot (rows.with_cursor c)
     → MayAct i.demand now i.world slot (decision.LookOn seen)
     → IsReadyTask (record { engine = inside.engine; rows = new }) slot
     → MayStep i.demand (record { engine = inside.engine; rows = new }) i.world slot

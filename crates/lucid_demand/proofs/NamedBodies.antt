@@ -1,6 +1,6 @@
 -- The body of a reference that may be asked for: it may be where a key was touched. Where it is a name whose value is held, that value is put and
 -- given; where it isn't held, the new row asks for it.
-use Rattle.lucid_demand.proofs.Common.{ℕ, arith, inl, inr, List, [], ◌∷◌, Option, None, refl, sym, ap, ◌∙◌, subst, IsTrue, IsSome, Value, plain, Elements, Key, KeepsKnown, Task, TaskRow, Stored, IsTouched, value_at, World, PlainTask, DatonAt, plain_task, plain_key, plain_rows, RefersTo, EngineView, known_elements, holding, MayHave, Demand, Remembers, Context, answers_over, work_over, Evaluating, cost, IsFor, MayAskFor, MayRefer, AsksIn, FindsAim, IsTurned, DemandFault, NoMemory, IsReference, node_of, equations_of, context_of, at_another, at_it, aim_of_task, plain_aim, IsAim, space_of}
+use Rattle.lucid_demand.proofs.Common.{ℕ, arith, inl, inr, List, [], ◌∷◌, Option, None, refl, sym, ap, ◌∙◌, subst, IsTrue, IsSome, Value, plain, Elements, Key, KeepsKnown, Task, TaskRow, Stored, IsTouched, value_at, World, PlainTask, DatonAt, plain_task, plain_key, plain_rows, RefersTo, EngineView, known_elements, holding, MayHave, Demand, Remembers, Context, answers_over, work_over, Evaluating, cost, IsFor, MayAskFor, MayRefer, AsksIn, FindsAim, IsTurned, DemandFault, NoMemory, IsReference, node_of, equations_of, context_of, at_it, aim_of_task, plain_aim, IsAim, space_of}
 use Rattle.std.proofs.Common.{◌≡◌, ◌≢◌, ◌<◌, Some}
 use Rattle.std.specs.Prelude.{IfSome, Result, Ok, Err, option_map}
 use Rattle.lucid_tasks.specs.declared.Part.{Part}

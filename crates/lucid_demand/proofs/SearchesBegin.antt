@@ -17,6 +17,7 @@ use Rattle.lucid_demand_steps.proofs.Acting.{begins_goes_on}
 use Rattle.lucid_demand_steps.specs.Searches.{search_for, noted_of, greatest_key}
 use Rattle.lucid_demand_steps.specs.declared.searches.Search.{Search}
 use Rattle.lucid_demand_steps.proofs.SearchForms.{SearchesBy, searches_by}
+use Rattle.lucid_demand.specs.Searching.{StandsFirst}
 use Rattle.lucid_demand.proofs.SettledRows.{ready_is_there}
 
 -- A ready row of a node that searches.
@@ -95,10 +96,9 @@ no_value f (Some x) p e n = absurd (cc)
 one_field : {A : Type 0} (f : TaskRow → A) (o : Option TaskRow) (r : TaskRow) (x : A) → o ≡ Some r → option_map f o ≡ Some x → x ≡ f r
 one_field f o r x at e = let z : Some (f r) ≡ Some x = sym (ap (option_map f) at) ∙ e in cc
 
--- The same by what each call gives: the row's task and its cursor, the task's node, its search, and what is noted or found.
-module _ (now inside : Evaluating) (slot : ℕ) (task : Task) (cursor : Cursor) (n : Node) (s : Search) (same : inside ≡ now)
+-- The same by what each call gives: the row's task, the task's node, its search, and what is noted or found.
+module _ (now inside : Evaluating) (slot : ℕ) (task : Task) (n : Node) (s : Search) (same : inside ≡ now)
     (task_is : option_map (λ row. row.task) (row_at inside.rows slot) ≡ Some task)
-    (cursor_is : option_map (λ row. row.cursor) (row_at inside.rows slot) ≡ Some cursor)
     (node : node_at inside.engine.table task.node ≡ node_by inside.engine.table n)
     (is : search_for n task.time ≡ Some s) (i : DemandIn) (step : MayStep i.demand now i.world slot) where
   stepping : MayStep i.demand inside i.world slot
@@ -110,23 +110,21 @@ module _ (now inside : Evaluating) (slot : ℕ) (task : Task) (cursor : Cursor) 
   same_task : task ≡ (its.0).task
   same_task = one_field (λ row. row.task) (row_at inside.rows slot) its.0 task its.1 task_is
 
-  same_cursor : cursor ≡ (its.0).cursor
-  same_cursor = one_field (λ row. row.cursor) (row_at inside.rows slot) its.0 cursor its.1 cursor_is
-
   its_node : node_at inside.engine.table (its.0).task.node ≡ node_by inside.engine.table n
   its_node = subst (λ (x : Task). node_at inside.engine.table x.node ≡ node_by inside.engine.table n) same_task node
 
   its_search : search_for n (its.0).task.time ≡ Some s
   its_search = subst (λ (x : Task). search_for n x.time ≡ Some s) same_task is
 
-  pub noted_right : (noted : Noted) → NotesOrMisses inside.engine.noted noted task.node task.tag (noted_of s cursor).0 (noted_of s cursor).1
+  pub noted_right : (cursor : Cursor) → option_map (λ row. row.cursor) (row_at inside.rows slot) ≡ Some cursor → (noted : Noted) → NotesOrMisses inside.engine.noted noted task.node task.tag (noted_of s cursor).0 (noted_of s cursor).1
       → Owns i.demand (record inside.engine { noted = noted }) i.world
-  noted_right noted notes =
+  noted_right cursor cursor_is noted notes =
+      let same_cursor : cursor ≡ (its.0).cursor = one_field (λ row. row.cursor) (row_at inside.rows slot) its.0 cursor its.1 cursor_is in
       owns_here i inside slot stepping its.0 its.1 n its_node s its_search noted
       (subst (λ (c : Cursor). NotesOrMisses inside.engine.noted noted (its.0).task.node (its.0).task.tag (noted_of s c).0 (noted_of s c).1) same_cursor
       (subst (λ (x : Task). NotesOrMisses inside.engine.noted noted x.node x.tag (noted_of s cursor).0 (noted_of s cursor).1) same_task notes))
 
-  pub begun_there : (c : Cursor) (new : List (Option TaskRow)) → IsBest inside.engine.noted task.node task.tag (greatest_key s) (noted_of s c) → cursor.time ≡ 0
+  pub begun_there : (c : Cursor) (new : List (Option TaskRow)) → IsBest inside.engine.noted task.node task.tag (greatest_key s) (noted_of s c) → StandsFirst now.rows slot
       → got_of inside.rows (record { slot = slot; index = 0 }) ≡ None → got_of inside.rows (record { slot = slot; index = 1 }) ≡ None
       → rows.ChangesOnly inside.rows new slot (rows.with_cursor c)
       → MayStep i.demand (record { engine = inside.engine; rows = new }) i.world slot
@@ -134,5 +132,5 @@ module _ (now inside : Evaluating) (slot : ℕ) (task : Task) (cursor : Cursor) 
   begun_there c new best start no_subject no_stream changes =
       let both = begun i inside slot stepping its.0 its.1 n its_node s its_search c
       (subst (λ (x : Task). IsBest inside.engine.noted x.node x.tag (greatest_key s) (noted_of s c)) same_task best)
-      (ap (λ (x : Cursor). x.time) (sym same_cursor) ∙ start) no_subject no_stream new changes in
+      (start its.0 (subst (λ (z : Evaluating). row_at z.rows slot ≡ Some its.0) same its.1)) no_subject no_stream new changes in
       (both.0, subst (λ z. cost i.demand (record { engine = inside.engine; rows = new }) ≤ cost i.demand z) same both.1)

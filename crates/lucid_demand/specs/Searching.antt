@@ -8,6 +8,10 @@ pub record StandsAt (old new : List (Option TaskRow)) (slot : ℕ) : Type 0 wher
   pub cursor : Cursor
   pub rows : ChangesOnly old new slot (with_cursor cursor)
 
+-- The row in the slot stands at the first time.
+abbrev pub StandsFirst : List (Option TaskRow) → (slot : ℕ) → Type 0
+StandsFirst rows slot = (r : TaskRow) → row_at rows slot ≡ Some r → r.cursor.time ≡ 0
+
 -- The search of the row in the slot stands before its limit, and counted no more true values than it looked at.
 pub record CanLookOn (rows : List (Option TaskRow)) (slot : ℕ) : Type 0 where
   pub before : (r : TaskRow) → row_at rows slot ≡ Some r → r.cursor.time < r.task.depth

@@ -4,7 +4,7 @@ ghost use Rattle.lucid_demand_steps.specs.Going.{Owns};
 ghost use Rattle.lucid_demand_steps.specs.declared.decision.Decision.TheVariants as decision;
 ghost use Rattle.lucid_demand.specs.Evaluating.{MayStep, gave, Stepped, cost};
 ghost use Rattle.lucid_demand.specs.Acting.{DemandIn, MayAct, IsReadyTask};
-ghost use Rattle.lucid_demand.specs.Searching.{StandsAt, CanLookOn};
+ghost use Rattle.lucid_demand.specs.Searching.{StandsAt, StandsFirst, CanLookOn};
 ghost use Rattle.lucid_demand.specs.Asking.{MayAskNow};
 
 use crate::DemandFault;
@@ -16,7 +16,8 @@ use lucid_schedule::Pick;
 use lucid_tasks::{Cursor, Part, Task};
 
 impl<R: Retire, S: Pick> Evaluation<R, S> {
-    // A search that looked at nothing so far begins at the best noted position. Most tasks are no search, so that is asked first.
+    // A search that looked at nothing so far begins at the best noted position. Most tasks are no search, so that is asked first. Whether
+    // its cursor stands at the beginning is asked here too, since the rest isn't inlined.
     #[inline(always)]
     pub(crate) fn begin_search(&mut self, slot: usize)
         requires { IsReadyTask self.old slot }
@@ -26,31 +27,28 @@ impl<R: Retire, S: Pick> Evaluation<R, S> {
         ensures engine { self.new.engine ≡ self.old.engine }
     {
         let task = self.tasks.task(slot);
-        if is_search(self.program.node(task.node)) {
+        if is_search(self.program.node(task.node)) && self.tasks.cursor(slot).time == 0 {
             self.begin_at_best(slot);
         }
     }
 
-    // The same of a search.
+    // The same of a search whose cursor stands at the beginning.
     #[inline(never)]
     fn begin_at_best(&mut self, slot: usize)
-        requires { IsReadyTask self.old slot }
+        requires ready { IsReadyTask self.old slot }
+        requires first { StandsFirst self.old.rows slot }
         ensures step { (i : DemandIn) → MayStep i.demand self.old i.world slot → MayStep i.demand self.new i.world slot }
         ensures cost { (i : DemandIn) → MayStep i.demand self.old i.world slot → cost i.demand self.new ≤ cost i.demand self.old }
         ensures rows { StandsAt self.old.rows self.new.rows slot }
         ensures engine { self.new.engine ≡ self.old.engine }
     {
+        if self.tasks.got(slot, 1).is_some() || self.tasks.got(slot, 0).is_some() {
+            return;
+        }
         let task = self.tasks.task(slot);
         let Some(search) = search_of(self.program.node(task.node), task.time) else {
             return;
         };
-        let cursor = self.tasks.cursor(slot);
-        if cursor.time != 0
-            || self.tasks.got(slot, 0).is_some()
-            || self.tasks.got(slot, 1).is_some()
-        {
-            return;
-        }
         if let Some(cursor) = search.best(&self.positions, task) {
             self.tasks.set_cursor(slot, cursor);
         }
@@ -127,8 +125,8 @@ impl<R: Retire, S: Pick> Evaluation<R, S> {
         // The cursor's time is below the task's limit, and so below 2^32.
         let _ = self.tasks.task(slot);
         let cursor = self.tasks.cursor(slot);
-        let _ = self.tasks.take(Part { slot, index: 0 });
-        let _ = self.tasks.take(Part { slot, index: 1 });
+        self.tasks.discard(Part { slot, index: 1 });
+        self.tasks.discard(Part { slot, index: 0 });
         let count = cursor.count + u64::from(seen);
         self.tasks.set_cursor(
             slot,

@@ -166,8 +166,8 @@ module _ (d : Demand) (now : EngineView) (w : World) (old new : List (Option Tas
   -- a search goes on
   pub moves_goes_down : (one two : List (Option TaskRow)) (slot : ℕ) (r : TaskRow) (c : Cursor) (truth_seen : Bool) → row_at old slot ≡ Some r
       → waits_for_none (plain_row now.known r) ≡ true
-      → MayMove (table_of d) (plain_row now.known r) truth_seen → c ≡ looked_on r.cursor truth_seen → rows.ChangesOnly old one slot (rows.taken 0)
-      → rows.ChangesOnly one two slot (rows.taken 1)
+      → MayMove (table_of d) (plain_row now.known r) truth_seen → c ≡ looked_on r.cursor truth_seen → rows.ChangesOnly old one slot (rows.taken 1)
+      → rows.ChangesOnly one two slot (rows.taken 0)
       → rows.ChangesOnly two new slot (rows.with_cursor c) → GoesDown d now w old new
   moves_goes_down one two slot r c truth_seen at ready may is first second cursor = record {
     waits = onward (work_moves d (known_elements now) (holding now) now.stored.lost (plain_rows now.known old) (plain_rows now.known new) slot row c
@@ -175,7 +175,7 @@ module _ (d : Demand) (now : EngineView) (w : World) (old new : List (Option Tas
         (ready_is_no_parent d (known_elements now) (holding now) now.stored.lost (plain_rows now.known old) waits.going.work slot row there ready)
         (λ b x. subst (λ z. RowFacts d b (holding now) now.stored.lost (at_cursor z row)) (sym is)
         (moved-facts d b (holding now) now.stored.lost row truth_seen (facts_of slot r at b x) may)) sets)
-        (known_moves now.known two new slot c cursor (known_takes now.known one two slot 1 second (known_takes now.known old one slot 0 first waits.known)));
+        (known_moves now.known two new slot c cursor (known_takes now.known one two slot 0 second (known_takes now.known old one slot 1 first waits.known)));
     less = falls (λ n l m. total_changes (table_of d) d.root.limit (plain_rows now.known old) (plain_rows now.known new) slot n row (at_cursor c row) there
         (moving_falls (table_of d) d.root.limit row c three may.before (subst (λ z. r.cursor.time < z.time) (sym is) (later truth_seen))) sets
         (omega (arith, l, row_below old slot r at)));

@@ -36,9 +36,9 @@ both_true : (a b : Bool) → a && b ≡ true → (a ≡ true) × (b ≡ true)
 both_true true b e = (refl, e)
 both_true false b e = absurd (cc)
 
--- the parts of a row once the values of parts 0 and 1 are taken
+-- the parts of a row once the values of parts 1 and 0 are taken
 taken_parts : List rows.PartState → List rows.PartState
-taken_parts ps = let once = slice_set ps 0 (emptied (slice_index_or ps 0 Idle)) in slice_set once 1 (emptied (slice_index_or once 1 Idle))
+taken_parts ps = let once = slice_set ps 1 (emptied (slice_index_or ps 1 Idle)) in slice_set once 0 (emptied (slice_index_or once 0 Idle))
 
 -- all are idle then
 all_taken : (ps : List rows.PartState) → length ps ≡ 3 → list_all is_free (map plain_state ps) ≡ true → state_at (map plain_state ps) 2 ≡ idle
@@ -54,12 +54,12 @@ all_taken ps l f e = absurd (omega (arith, l))
 -- a search goes on at a cursor
 pub plain_moves : (known : List Context) (old one two new : List (Option TaskRow)) (slot : ℕ) (r : TaskRow) (c : Cursor) → row_at old slot ≡ Some r
     → length r.parts ≡ 3
-    → waits_for_none (plain_row known r) ≡ true → state_at (plain_row known r).parts 2 ≡ idle → rows.ChangesOnly old one slot (rows.taken 0)
-    → rows.ChangesOnly one two slot (rows.taken 1)
+    → waits_for_none (plain_row known r) ≡ true → state_at (plain_row known r).parts 2 ≡ idle → rows.ChangesOnly old one slot (rows.taken 1)
+    → rows.ChangesOnly one two slot (rows.taken 0)
     → rows.ChangesOnly two new slot (rows.with_cursor c) → SetsRow (plain_rows known old) (plain_rows known new) slot (Some (at_cursor c (plain_row known r)))
 unfolding taken_parts
 plain_moves known old one two new slot r c at three ready third first second cursor =
-    sets_row known old new slot r (λ s. rows.with_cursor c (rows.taken 1 (rows.taken 0 s))) (at_cursor c (plain_row known r)) at
+    sets_row known old new slot r (λ s. rows.with_cursor c (rows.taken 0 (rows.taken 1 s))) (at_cursor c (plain_row known r)) at
     (ap (λ ps. record (plain_row known r) { cursor = c; parts = ps }) (all_taken r.parts three ready third))
-    (changes_then old two new slot (λ s. rows.taken 1 (rows.taken 0 s)) (rows.with_cursor c)
-    (changes_then old one two slot (rows.taken 0) (rows.taken 1) first second) cursor)
+    (changes_then old two new slot (λ s. rows.taken 0 (rows.taken 1 s)) (rows.with_cursor c)
+    (changes_then old one two slot (rows.taken 1) (rows.taken 0) first second) cursor)

@@ -1,4 +1,4 @@
-use Rattle.lucid_demand.proofs.Common.{None, refl, sym, subst, value_at, Evaluating, AsksIn, gave, NoMemory}
+use Rattle.lucid_demand.proofs.Common.{None, refl, sym, subst, value_at, AsksIn, gave, NoMemory}
 use Rattle.std.proofs.Common.{◌≡◌, Some}
 use Rattle.std.specs.Prelude.{IfSome, Ok, Err}
 use Rattle.lucid_tasks.specs.Rows.{IsIdlePart}

@@ -1,4 +1,4 @@
-use Rattle.lucid_demand.proofs.Common.{None, sym, subst, OnOk, Evaluating, gave, AsksIn, SetsPart}
+use Rattle.lucid_demand.proofs.Common.{None, sym, subst, OnOk, gave, AsksIn, SetsPart}
 use Rattle.std.proofs.Common.{◌≡◌}
 use Rattle.std.specs.Prelude.{IfSome, Ok, Err}
 use Rattle.lucid_demand.specs.Leading.{LeadsTo, OnDone}

@@ -1,4 +1,3 @@
-use Rattle.std.proofs.Common.{Some}
 use Rattle.lucid_demand.specs.Naming.{MayHaveRow}
 use Rattle.lucid_demand.proofs.Common.{subst}
 use Rattle.lucid_demand.proofs.NamedBodies.{row_asked}

@@ -1,5 +1,5 @@
-use Rattle.lucid_demand.proofs.Common.{◌-◌, None, refl, sym, ap, ◌∙◌, subst, arith, IsKnown, Task, PlainTask, plain_task, passed-stands, Evaluating, NoMemory}
-use Rattle.std.proofs.Common.{◌≡◌, ◌<◌, length}
+use Rattle.lucid_demand.proofs.Common.{◌-◌, None, refl, sym, subst, arith, IsKnown, Task, PlainTask, plain_task, passed-stands, Evaluating, NoMemory}
+use Rattle.std.proofs.Common.{◌<◌, length}
 use Rattle.std.specs.Prelude.{Err}
 use Rattle.lucid_equations.specs.Programs.{table_of}
 use Rattle.lucid_demand.proofs.TakenParts.{if_refused}
