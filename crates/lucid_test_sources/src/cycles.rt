@@ -18,39 +18,58 @@ fn scoped_of(alloc: Global, source: &[u8]) -> Result<Scoped, Fail> {
     Ok(resolve_owned(alloc, tree_of(alloc, source)?)?)
 }
 
-fn told(alloc: Global, judgment: &Judgment) -> Result<String, AllocError> {
-    let mut text = String::new(alloc);
+fn tell_depth(
+    text: &mut String,
+    factor: u64,
+    add: u64,
+    potentials: &[u64],
+) -> Result<(), AllocError> {
+    write!(text, "depth {factor} * t + {add}, potentials")?;
+    for potential in potentials {
+        write!(text, " {potential}")?;
+    }
+    Ok(())
+}
+
+fn tell_cycle(text: &mut String, names: &[u64], delays: &[i64]) -> Result<(), AllocError> {
+    text.push_str("cycle")?;
+    for name in names {
+        write!(text, " {name}")?;
+    }
+    text.push_str(", delays")?;
+    for delay in delays {
+        write!(text, " {delay}")?;
+    }
+    Ok(())
+}
+
+fn tell(text: &mut String, judgment: &Judgment) -> Result<(), AllocError> {
     match judgment {
         Judgment::Enough {
             factor,
             add,
             potentials,
-        } => {
-            write!(text, "depth {factor} * t + {add}, potentials")?;
-            for potential in potentials.items() {
-                write!(text, " {potential}")?;
-            }
-        }
-        Judgment::Cycle { names, delays } => {
-            text.push_str("cycle")?;
-            for name in names.items() {
-                write!(text, " {name}")?;
-            }
-            text.push_str(", delays")?;
-            for delay in delays.items() {
-                write!(text, " {delay}")?;
-            }
-        }
+        } => tell_depth(text, *factor, *add, potentials.items()),
+        Judgment::Cycle { names, delays } => tell_cycle(text, names.items(), delays.items()),
     }
+}
+
+fn told(alloc: Global, judgment: &Judgment) -> Result<String, AllocError> {
+    let mut text = String::new(alloc);
+    tell(&mut text, judgment)?;
     Ok(text)
+}
+
+fn judged_of(alloc: Global, scoped: &Scoped) -> Result<String, AllocError> {
+    match judge(alloc, scoped) {
+        Ok(judgment) => told(alloc, &judgment),
+        Err(refusal) => refusal.to_string(alloc),
+    }
 }
 
 fn judged(alloc: Global, source: &[u8]) -> Result<String, Fail> {
     let scoped = scoped_of(alloc, source)?;
-    match judge(alloc, &scoped) {
-        Ok(judgment) => Ok(told(alloc, &judgment)?),
-        Err(refusal) => Ok(refusal.to_string(alloc)?),
-    }
+    Ok(judged_of(alloc, &scoped)?)
 }
 
 fn is_judged_so(alloc: Global, source: &str, expected: &str) -> Result<bool, Fail> {
@@ -140,12 +159,15 @@ static OUTSIDE: [Row; 6] = [
     ("x where x is current 1; end", "not judged at 8"),
 ];
 
-fn line_of(alloc: Global, source: &[u8]) -> Result<String, Fail> {
-    let scoped = scoped_of(alloc, source)?;
-    let judgment = judge(alloc, &scoped)?;
+fn show(alloc: Global, scoped: &Scoped, line: &mut Vec<u8>) -> Result<(), Fail> {
+    let judgment = judge(alloc, scoped)?;
+    Ok(judgment.show(alloc, scoped, line)?)
+}
+
+fn line_of(alloc: Global, scoped: &Scoped) -> Result<Vec<u8>, Fail> {
     let mut line = Vec::new(alloc);
-    judgment.show(alloc, &scoped, &mut line)?;
-    Ok(String::from_utf8(line)?)
+    show(alloc, scoped, &mut line)?;
+    Ok(line)
 }
 
 // The line of each judgment. The places are counted by hand, from 0.
@@ -174,7 +196,8 @@ static LINES: [Row; 6] = [
 ];
 
 fn has_line(alloc: Global, source: &str, expected: &str) -> Result<bool, Fail> {
-    Ok(line_of(alloc, source.as_bytes())?.as_str() == expected)
+    let scoped = scoped_of(alloc, source.as_bytes())?;
+    Ok(line_of(alloc, &scoped)?.as_slice() == expected.as_bytes())
 }
 
 #[test]
@@ -189,40 +212,27 @@ fn judgments_and_their_lines(rt: HostRuntime) -> Result<(), Fail> {
     Ok(())
 }
 
+/// A source of so many names.
+#[derive(Clone, Copy)]
+enum Long {
+    Chain,
+    Wide,
+    WideCycle,
+    Made,
+}
+
 // x0 where x0 = 0; x1 = x0 + 1; x2 = x1 + 1; .. end
-fn chain(alloc: Global, count: u32) -> Result<String, AllocError> {
-    let mut text = String::new(alloc);
+fn chain(text: &mut String, count: u32) -> Result<(), AllocError> {
     text.push_str("x0 where x0 = 0;\n")?;
     for number in 1..count {
         let last = number - 1;
         write!(text, "x{number} = x{last} + 1;\n")?;
     }
-    text.push_str("end")?;
-    Ok(text)
-}
-
-// The judgment of so many names, each of which needs the one before it at the same time.
-fn rising(alloc: Global, names: u32, add: u32) -> Result<String, AllocError> {
-    let mut text = format!(in alloc; "depth {names} * t + {add}, potentials")?;
-    for potential in 0..names {
-        write!(text, " {potential}")?;
-    }
-    Ok(text)
-}
-
-// Whether so many names of a source are judged so.
-fn is_rising(alloc: Global, source: String, names: u32, add: u32) -> Result<bool, Fail> {
-    let expected = rising(alloc, names, add)?;
-    is_judged_so(alloc, &source, &expected)
-}
-
-fn is_too_long(alloc: Global) -> Result<bool, Fail> {
-    is_judged_so(alloc, &chain(alloc, 2001)?, "too many names")
+    text.push_str("end")
 }
 
 // x0 where x0 = LAST; x1 = x0 + x0 + x0 + x0 + x0; x2 = x1 + x1 + x0 + x0 + x0; .. end: each name has five references of lesser ones
-fn wide(alloc: Global, count: u32, last: &str) -> Result<String, AllocError> {
-    let mut text = String::new(alloc);
+fn wide(text: &mut String, count: u32, last: &str) -> Result<(), AllocError> {
     write!(text, "x0 where x0 = {last};\n")?;
     for number in 1..count {
         write!(text, "x{number} = x{}", number - 1)?;
@@ -231,18 +241,11 @@ fn wide(alloc: Global, count: u32, last: &str) -> Result<String, AllocError> {
         }
         text.push_str(";\n")?;
     }
-    text.push_str("end")?;
-    Ok(text)
+    text.push_str("end")
 }
 
-fn is_cycle(alloc: Global) -> Result<bool, Fail> {
-    let source = wide(alloc, 2000, "x1999")?;
-    Ok(judged(alloc, source.as_bytes())?.starts_with("cycle"))
-}
-
-// v1000 where v0 = 1 fby (v0 + 1) mod 1000; v1 = v0 fby (v1 + v0) mod 1000; .. end
-fn made(alloc: Global, last: u32) -> Result<String, AllocError> {
-    let mut text = String::new(alloc);
+// vN where v0 = 1 fby (v0 + 1) mod 1000; v1 = v0 fby (v1 + v0) mod 1000; .. end
+fn made(text: &mut String, last: u32) -> Result<(), AllocError> {
     write!(text, "v{last} where\nv0 = 1 fby (v0 + 1) mod 1000;\n")?;
     for number in 1..=last {
         let before = number - 1;
@@ -251,8 +254,76 @@ fn made(alloc: Global, last: u32) -> Result<String, AllocError> {
             "v{number} = v{before} fby (v{number} + v{before}) mod 1000;\n"
         )?;
     }
-    text.push_str("end")?;
+    text.push_str("end")
+}
+
+fn put_long(text: &mut String, long: Long, count: u32) -> Result<(), AllocError> {
+    match long {
+        Long::Chain => chain(text, count),
+        Long::Wide => wide(text, count, "0"),
+        Long::WideCycle => wide(text, count, "x1999"),
+        Long::Made => made(text, count),
+    }
+}
+
+fn long_source(alloc: Global, long: Long, count: u32) -> Result<String, AllocError> {
+    let mut text = String::new(alloc);
+    put_long(&mut text, long, count)?;
     Ok(text)
+}
+
+// The judgment of so many names, each of which needs the one before it at the same time.
+fn rises(text: &mut String, names: u32, add: u32) -> Result<(), AllocError> {
+    write!(text, "depth {names} * t + {add}, potentials")?;
+    for potential in 0..names {
+        write!(text, " {potential}")?;
+    }
+    Ok(())
+}
+
+fn rising(alloc: Global, names: u32, add: u32) -> Result<String, AllocError> {
+    let mut text = String::new(alloc);
+    rises(&mut text, names, add)?;
+    Ok(text)
+}
+
+// A long source, how many names it is made of, and how many it has; what is added to its depth.
+type Rising = (Long, u32, u32, u32);
+
+static RISING: [Rising; 3] = [
+    (Long::Chain, 2000, 2000, 2),
+    (Long::Wide, 2000, 2000, 2),
+    (Long::Made, 1000, 1001, 1002),
+];
+
+fn is_rising(alloc: Global, (long, count, names, add): Rising) -> Result<bool, Fail> {
+    let source = long_source(alloc, long, count)?;
+    is_judged_as_rising(alloc, &source, names, add)
+}
+
+fn is_judged_as_rising(alloc: Global, source: &str, names: u32, add: u32) -> Result<bool, Fail> {
+    let expected = rising(alloc, names, add)?;
+    is_judged_so(alloc, source, &expected)
+}
+
+// The number of the first long source that is judged otherwise.
+fn wrong_rising(alloc: Global) -> Result<Option<usize>, Fail> {
+    for (number, row) in RISING.iter().enumerate() {
+        if !is_rising(alloc, *row)? {
+            return Ok(Some(number));
+        }
+    }
+    Ok(None)
+}
+
+fn is_too_long(alloc: Global) -> Result<bool, Fail> {
+    let source = long_source(alloc, Long::Chain, 2001)?;
+    is_judged_so(alloc, &source, "too many names")
+}
+
+fn is_cycle(alloc: Global) -> Result<bool, Fail> {
+    let source = long_source(alloc, Long::WideCycle, 2000)?;
+    Ok(judged(alloc, source.as_bytes())?.starts_with("cycle"))
 }
 
 // Where each name of a wide program needs the one before it, potentials rise in as many rounds as there are names; with the last name in the
@@ -260,11 +331,9 @@ fn made(alloc: Global, last: u32) -> Result<String, AllocError> {
 #[test]
 fn large_programs_are_judged(rt: HostRuntime) -> Result<(), Fail> {
     let alloc = rt.alloc();
-    must(is_rising(alloc, chain(alloc, 2000)?, 2000, 2)?, "a chain")?;
+    none_wrong(wrong_rising(alloc)?, "long sources")?;
     must(is_too_long(alloc)?, "a chain of 2,001 names")?;
-    must(is_rising(alloc, wide(alloc, 2000, "0")?, 2000, 2)?, "wide")?;
-    must(is_cycle(alloc)?, "a wide cycle")?;
-    must(is_rising(alloc, made(alloc, 1000)?, 1001, 1002)?, "made")
+    must(is_cycle(alloc)?, "a wide cycle")
 }
 
 /// A factor, a number that is added, the potentials of two names, and whether that is enough.
@@ -301,10 +370,14 @@ fn wrong_depth(alloc: Global, scoped: &Scoped) -> Result<Option<usize>, Fail>
 }
 
 // The same of a program that is judged first.
+fn wrong_once_judged(alloc: Global, scoped: &Scoped) -> Result<Option<usize>, Fail> {
+    judge(alloc, scoped)?;
+    wrong_depth(alloc, scoped)
+}
+
 fn wrong_of_program(alloc: Global) -> Result<Option<usize>, Fail> {
     let scoped = scoped_of(alloc, b"x where x = y where y = 0 fby x; end; end")?;
-    judge(alloc, &scoped)?;
-    wrong_depth(alloc, &scoped)
+    wrong_once_judged(alloc, &scoped)
 }
 
 #[test]

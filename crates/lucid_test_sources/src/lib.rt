@@ -1,5 +1,4 @@
-//! Tests alone, of trees made by hand, and of sources as text: their tokens, the trees that they spell, what their names belong to, and what is
-//! judged of their cycles.
+//! Tests alone, of sources as text: their tokens, the trees that they spell, what their names belong to, and what is judged of their cycles.
 #![tactic(auto)]
 
 #[cfg(test)]

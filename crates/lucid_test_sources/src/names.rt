@@ -354,9 +354,16 @@ fn is_the_outermost(scoped: &Scoped, last: u32) -> bool {
     scoped.binding(last) == Some(Binding::Plain { def: 8 }) && scoped.inputs().is_empty()
 }
 
+fn resolves_to_the_outermost(alloc: Global, source: &[u8], last: u32) -> Result<bool, Fail> {
+    match scoped(alloc, source)? {
+        Ok(scoped) => Ok(is_the_outermost(&scoped, last)),
+        Err(_) => Ok(false),
+    }
+}
+
 fn finds_the_outermost(alloc: Global) -> Result<bool, Fail> {
     let (source, last) = deep_source(alloc)?;
-    Ok(is_the_outermost(&scoped(alloc, source.as_bytes())??, last))
+    resolves_to_the_outermost(alloc, source.as_bytes(), last)
 }
 
 #[test]

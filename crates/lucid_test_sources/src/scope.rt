@@ -1,36 +1,9 @@
 //! The calls with ample memory.
-ghost use Rattle.std.specs.Prelude.{◌≡◌, IfOk};
-ghost use Rattle.lucid_tree.specs.Tree.{name, call, no_trees, tree};
-
 use crate::told::{first_false, must};
+use crate::tree::tree_of;
 use lucid_scope::{Binding, ScopeRefusal, Scoped, resolve, resolve_owned};
-use lucid_tree::{Kind, Tree, Trees};
-use lucid_value::{MakeRefusal, Name};
-use std::alloc::{AllocError, Global};
+use std::alloc::Global;
 use std::test::Fail;
-
-fn name_at(alloc: Global, at: u32, bytes: &[u8]) -> Result<Tree, MakeRefusal>
-    ensures { IfOk result (λ made. made ≡ name at bytes.now) }
-{
-    let name = Name::make(alloc, bytes)?;
-    Ok(Tree {
-        at,
-        kind: Kind::Name(name),
-    })
-}
-
-fn call_at(alloc: Global, at: u32, bytes: &[u8], argument: Tree) -> Result<Tree, MakeRefusal>
-    ensures { IfOk result (λ made. made ≡ call at bytes.now (tree argument no_trees)) }
-{
-    let name = Name::make(alloc, bytes)?;
-    let mut items = Vec::new(alloc);
-    items.push(argument).map_err(AllocError::from)?;
-    let args = Trees::from_vec(items);
-    Ok(Tree {
-        at,
-        kind: Kind::Call { name, args },
-    })
-}
 
 // What is not so of a tree that is the name `y` at byte 3, which is the one input.
 fn first_wrong(scoped: &Scoped) -> Option<usize> {
@@ -46,16 +19,16 @@ fn first_wrong(scoped: &Scoped) -> Option<usize> {
     ])
 }
 
-// y
 fn wrong_name(alloc: Global) -> Result<Option<usize>, Fail> {
-    let tree = name_at(alloc, 3, b"y")?;
-    Ok(first_wrong(&resolve_owned(alloc, tree)?))
+    let tree = tree_of(alloc, b"   y")?;
+    match resolve_owned(alloc, tree) {
+        Ok(scoped) => Ok(first_wrong(&scoped)),
+        Err(_) => Ok(Some(4)),
+    }
 }
 
-// f(y)
 fn refused_call(alloc: Global) -> Result<Option<ScopeRefusal>, Fail> {
-    let argument = name_at(alloc, 2, b"y")?;
-    let called = call_at(alloc, 0, b"f", argument)?;
+    let called = tree_of(alloc, b"f(y)")?;
     Ok(resolve(alloc, &called).err())
 }
 
