@@ -3,6 +3,7 @@ ghost use Rattle.std.specs.Prelude.{◌≡◌, ◌<◌, ◌≤◌, length, IfOk}
 ghost use Rattle.lucid_ports.specs.MemoryView.{memory_world};
 ghost use Rattle.lucid_inputs.specs.Inputs.{AreAskable, IsAskable, streams};
 
+use crate::told::must;
 use lucid_inputs::*;
 use lucid_ports::{Endless, FailAt, MemoryFile, MemoryPlaces, Narrow, Places, read_at_most};
 use lucid_value::Value;
@@ -13,7 +14,7 @@ use std::test::Fail;
 const MOST: u64 = 268_435_456;
 
 // What a call for an element answers.
-#[derive(Clone, Copy, Debug, PartialEq, Eq)]
+#[derive(Clone, Copy, PartialEq, Eq)]
 enum Seen {
     Int(i128),
     Fault,
@@ -142,11 +143,12 @@ fn wrong_position(alloc: Global) -> Result<Option<u64>, Fail> {
 #[test]
 fn limits_and_failures(rt: HostRuntime) -> Result<(), Fail> {
     let alloc = rt.alloc();
-    let zeros = [of_zeros(alloc, 4_194_303)?, of_zeros(alloc, 4_194_304)?];
-    assert_eq!(rt; zeros, [Seen::Int(1), Seen::Fault]);
-    let wrong = [wrong_limit(alloc)?, wrong_position(alloc)?];
-    assert_eq!(rt; wrong, [None, None]);
-    Ok(())
+    let zeros = of_zeros(alloc, 4_194_303)? == Seen::Int(1);
+    must(zeros, "the longest line that is read")?;
+    let more = of_zeros(alloc, 4_194_304)? == Seen::Fault;
+    must(more, "a line that is too long")?;
+    must(wrong_limit(alloc)?.is_none(), "limits")?;
+    must(wrong_position(alloc)?.is_none(), "failures")
 }
 
 fn look_up(inputs: &Inputs, index: u64) -> Option<Seen>
@@ -241,12 +243,14 @@ fn what_is_read_and_known(rt: HostRuntime) -> Result<(), Fail> {
         Some(Seen::Eod),
         Some(Seen::Eod),
     ];
-    assert_eq!(rt; known(alloc)?, wanted);
-    for most in [1usize, 2, 7, 100] {
-        assert_eq!(rt; wrong_element(alloc, most)?, None, "with {most}");
+    must(known(alloc)? == wanted, "what is known")?;
+    for (most, name) in [(1usize, "1"), (2, "2"), (7, "7"), (100, "100")] {
+        must(wrong_element(alloc, most)?.is_none(), name)?;
     }
-    assert_eq!(rt; endless(alloc)?, (TOO_LARGE, Some(b'2')));
-    Ok(())
+    must(
+        endless(alloc)? == (TOO_LARGE, Some(b'2')),
+        "an input without end",
+    )
 }
 
 // Lines with a seven each.
@@ -281,8 +285,10 @@ fn million(alloc: Global) -> Result<(u64, Seen), Fail> {
 
 #[test]
 fn a_million_lines(rt: HostRuntime) -> Result<(), Fail> {
-    assert_eq!(rt; million(rt.alloc())?, (1_000_000, Seen::Eod));
-    Ok(())
+    must(
+        million(rt.alloc())? == (1_000_000, Seen::Eod),
+        "a million lines",
+    )
 }
 
 // One of two streams, read from the places `a` and `b`.
@@ -421,8 +427,7 @@ fn two_streams_in_turns(rt: HostRuntime) -> Result<(), Fail> {
             ],
         ),
     ] {
-        let wrong = in_turns(rt.alloc(), turns.as_slice())?;
-        assert_eq!(rt; wrong, (2, None), "{row}");
+        must(in_turns(rt.alloc(), turns.as_slice())? == (2, None), row)?;
     }
     Ok(())
 }

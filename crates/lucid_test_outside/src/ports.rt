@@ -1,9 +1,9 @@
 // What no clause says: that the calls succeed with ample memory, and the real objects.
-ghost use Rattle.std.specs.Prelude.{◌≡◌, ◌≤◌, ◌++◌, IfOk, OnOk};
+ghost use Rattle.std.specs.Prelude.{◌≡◌, ◌<◌, ◌≤◌, ◌++◌, IfOk, OnOk};
 ghost use Rattle.lucid_ports.specs.MemoryView.{memory_world};
 ghost use Rattle.lucid_ports.specs.RealSinkView.{sink_writer};
 
-use crate::told::{first_false, none_wrong};
+use crate::told::{first_false, must, none_wrong};
 use lucid_ports::*;
 use std::alloc::{AllocError, Global};
 use std::io::{self, ErrorKind, Write};
@@ -22,44 +22,88 @@ fn two_lines(alloc: Global, failures: &[FailAt]) -> Result<MemoryPlaces, AllocEr
     Ok(MemoryPlaces::make(alloc, files, Vec::from_slice(alloc, failures)?))
 }
 
-fn wrong_of_a_file(alloc: Global) -> Result<Option<usize>, Fail> {
-    let mut places = two_lines(alloc, &[])?;
+// Whether a place has these bytes, of which at most so many are read.
+pub(crate) fn reads<P: Places>(
+    alloc: Global,
+    places: &mut P,
+    place: u32,
+    most: usize,
+    wanted: &[u8],
+) -> Result<bool, PortFault>
+    requires { place < (P.world places.old).reached }
+    ensures { (P.world places.new).reached ≡ (P.world places.old).reached }
+{
+    Ok(read_at_most(alloc, places, place, most)?.as_slice() == wanted)
+}
+
+// Places are made by one function and looked at by another: what owns them pays for each `?`.
+fn wrong_in_a_file(alloc: Global, places: &mut MemoryPlaces) -> Result<Option<usize>, Fail>
+    requires { (memory_world places.old).reached ≡ 0 }
+{
     let place = places.reach(alloc, "a")?;
-    let bytes = read_at_most(alloc, &mut places, place, 3)?;
-    let consumed = places.consumed(place);
-    let rest = read_at_most(alloc, &mut places, place, 3)?;
     Ok(first_false(&[
         place == 0,
-        bytes.as_slice() == b"7\n8".as_slice(),
-        consumed == 3,
-        rest.as_slice() == b"\n".as_slice(),
+        reads(alloc, places, place, 3, b"7\n8")?,
+        places.consumed(place) == 3,
+        reads(alloc, places, place, 3, b"\n")?,
         places.reach(alloc, "b") == Err(PortFault::Failed),
     ]))
 }
 
-// What a call that fails at a position answers, how much is consumed then, and how much is left.
-fn failing(alloc: Global, position: u64) -> Result<(Option<PortFault>, u64, u64), Fail> {
-    let mut places = two_lines(alloc, &[FailAt { place: 0, position }])?;
+fn wrong_of_a_file(alloc: Global) -> Result<Option<usize>, Fail> {
+    let mut places = two_lines(alloc, &[])?;
+    wrong_in_a_file(alloc, &mut places)
+}
+
+// What a call answers, how much is consumed then, and how much is left.
+fn failing_in(
+    alloc: Global,
+    places: &mut MemoryPlaces,
+) -> Result<(Option<PortFault>, u64, u64), Fail>
+    requires { (memory_world places.old).reached ≡ 0 }
+{
     let place = places.reach(alloc, "a")?;
-    let failed = read_at_most(alloc, &mut places, place, 9).err();
+    let failed = read_at_most(alloc, places, place, 9).err();
     let consumed = places.consumed(place);
-    let rest = read_at_most(alloc, &mut places, place, 9)?;
+    let rest = read_at_most(alloc, places, place, 9)?;
     Ok((failed, consumed, rest.len() as u64))
 }
 
-// How much is shown of a file where so many bytes are shown at a time, and whether the rest is read.
-fn narrow(alloc: Global, most: usize) -> Result<(usize, bool), Fail>
-    requires { 1 ≤ most }
+// The same of a call that fails at a position.
+fn failing(alloc: Global, position: u64) -> Result<(Option<PortFault>, u64, u64), Fail> {
+    let mut places = two_lines(alloc, &[FailAt { place: 0, position }])?;
+    failing_in(alloc, &mut places)
+}
+
+// Whether that fails, with all before the position consumed and all behind it left.
+fn fails_so(alloc: Global, position: u64) -> Result<bool, Fail> {
+    let (failed, consumed, rest) = failing(alloc, position)?;
+    Ok(
+        failed == Some(PortFault::Failed)
+            && consumed == position
+            && rest.saturating_add(position) == 4,
+    )
+}
+
+// How much is shown of a file, and whether the rest is read.
+fn shown_in<P: Places>(alloc: Global, places: &mut P) -> Result<(usize, bool), Fail>
+    requires { (P.world places.old).reached ≡ 0 }
 {
-    let mut places = Narrow::make(two_lines(alloc, &[])?, most);
     let place = places.reach(alloc, "a")?;
     let shown = places.fill(place)?.len();
     if shown < 1 {
         return Err(Fail::new("nothing is shown"));
     }
     places.consume(place, 1);
-    let bytes = read_at_most(alloc, &mut places, place, 9)?;
-    Ok((shown, bytes.as_slice() == b"\n8\n".as_slice()))
+    Ok((shown, reads(alloc, places, place, 9, b"\n8\n")?))
+}
+
+// The same where so many bytes are shown at a time.
+fn narrow(alloc: Global, most: usize) -> Result<(usize, bool), Fail>
+    requires { 1 ≤ most }
+{
+    let mut places = Narrow::make(two_lines(alloc, &[])?, most);
+    shown_in(alloc, &mut places)
 }
 
 // The file `a` with the bytes `7\n`.
@@ -73,18 +117,22 @@ fn one_line(alloc: Global) -> Result<Vec<MemoryFile>, AllocError> {
     Ok(files)
 }
 
+fn wrong_in_pieces<P: Places>(alloc: Global, places: &mut P) -> Result<Option<usize>, Fail>
+    requires { (P.world places.old).reached ≡ 0 }
+{
+    let file = places.reach(alloc, "a")?;
+    let piece = places.reach(alloc, "b")?;
+    Ok(first_false(&[
+        reads(alloc, places, file, 9, b"7\n")?,
+        reads(alloc, places, piece, 5, b"01201")?,
+        places.fill(piece)? == b"2".as_slice(),
+    ]))
+}
+
 // What is wrong of a piece that comes again and again.
 fn wrong_of_a_piece(alloc: Global) -> Result<Option<usize>, Fail> {
     let mut places = Endless::make(alloc, one_line(alloc)?, vec![in alloc; 48, 49, 50]?);
-    let file = places.reach(alloc, "a")?;
-    let piece = places.reach(alloc, "b")?;
-    let line = read_at_most(alloc, &mut places, file, 9)?;
-    let bytes = read_at_most(alloc, &mut places, piece, 5)?;
-    Ok(first_false(&[
-        line.as_slice() == b"7\n".as_slice(),
-        bytes.as_slice() == b"01201".as_slice(),
-        places.fill(piece)? == b"2".as_slice(),
-    ]))
+    wrong_in_pieces(alloc, &mut places)
 }
 
 // Pieces that are written, and what is answered.
@@ -120,38 +168,50 @@ fn places_and_sinks_in_memory(rt: HostRuntime) -> Result<(), Fail> {
     none_wrong(wrong_of_a_file(alloc)?, "a file")?;
     none_wrong(wrong_of_a_piece(alloc)?, "a piece")?;
     for position in [0u64, 1, 3, 4] {
-        let (failed, consumed, rest) = failing(alloc, position)?;
-        let seen = (failed, consumed, rest.saturating_add(position));
-        assert_eq!(rt;
-            seen,
-            (Some(PortFault::Failed), position, 4),
-            "at {position}"
-        );
+        must(fails_so(alloc, position)?, "a failure")?;
     }
     for most in [1usize, 2, 3, 7] {
-        assert_eq!(rt; narrow(alloc, most)?, (most.min(4), true), "with {most}");
+        must(
+            narrow(alloc, most)? == (most.min(4), true),
+            "a narrow place",
+        )?;
     }
-    assert_eq!(rt; listed_writes(alloc)?, (None, true));
-    Ok(())
+    must(listed_writes(alloc)? == (None, true), "writes that fail")
+}
+
+// Whether so many zeros come of a place.
+fn gives_zeros<P: Places>(
+    alloc: Global,
+    places: &mut P,
+    place: u32,
+    count: usize,
+) -> Result<bool, PortFault>
+    requires { place < (P.world places.old).reached }
+    ensures { (P.world places.new).reached ≡ (P.world places.old).reached }
+{
+    let bytes = read_at_most(alloc, places, place, count)?;
+    Ok(bytes.len() == count && bytes.iter().all(|byte| *byte == 0))
+}
+
+fn wrong_in_real_places<P: Places>(alloc: Global, places: &mut P) -> Result<Option<usize>, Fail>
+    requires { (P.world places.old).reached ≡ 0 }
+{
+    let zeros = places.reach(alloc, "/dev/zero")?;
+    let empty = places.reach(alloc, "/dev/null")?;
+    let folder = places.reach(alloc, "/")?;
+    Ok(first_false(&[
+        gives_zeros(alloc, places, zeros, 100_000)?,
+        places.fill(empty)?.is_empty(),
+        places.fill(folder).err() == Some(PortFault::Failed),
+        places.reach(alloc, "/dev/null/none") == Err(PortFault::Failed),
+        places.reach(alloc, "-") == Ok(3),
+    ]))
 }
 
 // What is wrong of real files.
 fn wrong_of_real_places(rt: HostRuntime) -> Result<Option<usize>, Fail> {
     let alloc = rt.alloc();
-    let mut places = RealPlaces::make(alloc, rt);
-    let zeros = places.reach(alloc, "/dev/zero")?;
-    let bytes = read_at_most(alloc, &mut places, zeros, 100_000)?;
-    let empty = places.reach(alloc, "/dev/null")?;
-    let nothing = places.fill(empty)?.len();
-    let folder = places.reach(alloc, "/")?;
-    Ok(first_false(&[
-        bytes.len() == 100_000,
-        bytes.iter().all(|byte| *byte == 0),
-        nothing == 0,
-        places.fill(folder).err() == Some(PortFault::Failed),
-        places.reach(alloc, "/dev/null/none") == Err(PortFault::Failed),
-        places.reach(alloc, "-") == Ok(3),
-    ]))
+    wrong_in_real_places(alloc, &mut RealPlaces::make(alloc, rt))
 }
 
 // What is answered of writes to the standard output, and to a full device.
@@ -164,8 +224,10 @@ fn real_writes(rt: HostRuntime) -> Result<[Result<usize, PortFault>; 2], Fail> {
 #[test]
 fn real_places_and_sinks(rt: HostRuntime) -> Result<(), Fail> {
     none_wrong(wrong_of_real_places(rt)?, "real places")?;
-    assert_eq!(rt; real_writes(rt)?, [Ok(8), Err(PortFault::Failed)]);
-    Ok(())
+    must(
+        real_writes(rt)? == [Ok(8), Err(PortFault::Failed)],
+        "real writes",
+    )
 }
 
 // A vector tells what it holds: all of a piece that is written whole.

@@ -1,6 +1,7 @@
 // Real places over a runtime that gives what is written down for it: the order of the bytes, ends, failures, and what is taken of standard input.
 ghost use Rattle.std.specs.Prelude.{◌≡◌, ◌<◌, ◌≤◌, OnOk};
 
+use crate::ports::reads;
 use crate::scripted::{Scripted, Step};
 use crate::told::{all_hold, must, none_wrong};
 use lucid_ports::{MemoryFile, MemoryOutside, Places, PortFault, RealPlaces, read_at_most};
@@ -25,17 +26,29 @@ fn is_read_whole<P: Places>(alloc: Global, places: &mut P, place: u32) -> Result
     requires { place < (P.world places.old).reached }
     ensures { OnOk result ((P.world places.new).reached ≡ (P.world places.old).reached) }
 {
-    let first = read_at_most(alloc, places, place, 4)?;
-    let rest = read_at_most(alloc, places, place, 99)?;
-    let ends = [places.fill(place)?.len(), places.fill(place)?.len()];
     Ok(all_hold(&[
-        first.as_slice() == b"1\n22".as_slice(),
-        rest.as_slice() == b"\n333\n4444\n".as_slice(),
-        ends == [0, 0],
+        reads(alloc, places, place, 4, b"1\n22")?,
+        reads(alloc, places, place, 99, b"\n333\n4444\n")?,
+        places.fill(place)?.is_empty(),
+        places.fill(place)?.is_empty(),
     ]))
 }
 
-// Whether they come of a file and of the standard input.
+// Whether they come of the file `a` and of the standard input.
+fn both_are_read<P: Places>(alloc: Global, places: &mut P) -> Result<bool, Fail>
+    requires { (P.world places.old).reached ≡ 0 }
+    ensures { OnOk result ((P.world places.new).reached ≡ 2) }
+{
+    let file = places.reach(alloc, "a")?;
+    let input = places.reach(alloc, "-")?;
+    let facts = [
+        is_read_whole(alloc, places, file)?,
+        is_read_whole(alloc, places, input)?,
+    ];
+    Ok(facts == [true, true])
+}
+
+// The same by steps.
 fn come_in_order(alloc: Global, steps: &'static [Step], ahead: usize) -> Result<bool, Fail> {
     let taken = Cell::new(0);
     let script = Scripted {
@@ -43,14 +56,7 @@ fn come_in_order(alloc: Global, steps: &'static [Step], ahead: usize) -> Result<
         ahead,
         taken: &taken,
     };
-    let mut places = RealPlaces::make(alloc, script);
-    let file = places.reach(alloc, "a")?;
-    let input = places.reach(alloc, "-")?;
-    let facts = [
-        is_read_whole(alloc, &mut places, file)?,
-        is_read_whole(alloc, &mut places, input)?,
-    ];
-    Ok(facts == [true, true])
+    both_are_read(alloc, &mut RealPlaces::make(alloc, script))
 }
 
 // Steps, and how many bytes are shown ahead, with a name for both.
@@ -64,6 +70,17 @@ static PIECES: [(&str, &[Step], usize); 5] = [
 
 const FAULT: &[Step] = &[Step::Bytes(b"1\n2"), Step::Fault, Step::Bytes(b"2\n")];
 
+fn a_fault_loses_nothing<P: Places>(alloc: Global, places: &mut P, name: &str) -> Result<bool, Fail>
+    requires { (P.world places.old).reached ≡ 0 }
+{
+    let place = places.reach(alloc, name)?;
+    Ok(all_hold(&[
+        reads(alloc, places, place, 3, b"1\n2")?,
+        places.fill(place).err() == Some(PortFault::Failed),
+        reads(alloc, places, place, 99, b"2\n")?,
+    ]))
+}
+
 // Whether a fault in mid-stream loses nothing.
 fn loses_nothing(alloc: Global, name: &str, ahead: usize) -> Result<bool, Fail> {
     let taken = Cell::new(0);
@@ -72,19 +89,20 @@ fn loses_nothing(alloc: Global, name: &str, ahead: usize) -> Result<bool, Fail> 
         ahead,
         taken: &taken,
     };
-    let mut places = RealPlaces::make(alloc, script);
-    let place = places.reach(alloc, name)?;
-    let first = read_at_most(alloc, &mut places, place, 3)?;
-    let failed = places.fill(place).err();
-    let rest = read_at_most(alloc, &mut places, place, 99)?;
-    Ok(all_hold(&[
-        first.as_slice() == b"1\n2".as_slice(),
-        failed == Some(PortFault::Failed),
-        rest.as_slice() == b"2\n".as_slice(),
-    ]))
+    a_fault_loses_nothing(alloc, &mut RealPlaces::make(alloc, script), name)
 }
 
 const TYPED: &[Step] = &[Step::Bytes(b"1\n"), Step::End, Step::Bytes(b"2\n")];
+
+fn more_comes_after_an_end<P: Places>(alloc: Global, places: &mut P) -> Result<bool, Fail>
+    requires { (P.world places.old).reached ≡ 0 }
+{
+    let place = places.reach(alloc, "-")?;
+    Ok(all_hold(&[
+        reads(alloc, places, place, 99, b"1\n")?,
+        reads(alloc, places, place, 99, b"2\n")?,
+    ]))
+}
 
 // Whether more comes after an end, as of a terminal, where an end was typed and then more.
 fn goes_on(alloc: Global, ahead: usize) -> Result<bool, Fail> {
@@ -94,14 +112,7 @@ fn goes_on(alloc: Global, ahead: usize) -> Result<bool, Fail> {
         ahead,
         taken: &taken,
     };
-    let mut places = RealPlaces::make(alloc, script);
-    let place = places.reach(alloc, "-")?;
-    let first = read_at_most(alloc, &mut places, place, 99)?;
-    let rest = read_at_most(alloc, &mut places, place, 99)?;
-    Ok(all_hold(&[
-        first.as_slice() == b"1\n".as_slice(),
-        rest.as_slice() == b"2\n".as_slice(),
-    ]))
+    more_comes_after_an_end(alloc, &mut RealPlaces::make(alloc, script))
 }
 
 #[test]
@@ -127,6 +138,15 @@ static TAKEN: [(usize, usize, usize); 6] = [
     (1, 2, 14),
 ];
 
+fn read_of_the_input<P: Places>(alloc: Global, places: &mut P, most: usize) -> Result<(), Fail>
+    requires { (P.world places.old).reached ≡ 0 }
+{
+    let place = places.reach(alloc, "-")?;
+    places.fill(place)?;
+    read_at_most(alloc, places, place, most)?;
+    Ok(())
+}
+
 // Reads so many bytes at most of the standard input, and lets go of it.
 fn read_some(alloc: Global, ahead: usize, most: usize, taken: &Cell<usize>) -> Result<(), Fail> {
     let script = Scripted {
@@ -134,11 +154,7 @@ fn read_some(alloc: Global, ahead: usize, most: usize, taken: &Cell<usize>) -> R
         ahead,
         taken,
     };
-    let mut places = RealPlaces::make(alloc, script);
-    let place = places.reach(alloc, "-")?;
-    places.fill(place)?;
-    read_at_most(alloc, &mut places, place, most)?;
-    Ok(())
+    read_of_the_input(alloc, &mut RealPlaces::make(alloc, script), most)
 }
 
 // The number of the first row by which something else is taken.
@@ -178,14 +194,8 @@ fn memory_serves(alloc: Global, files: &[MemoryFile], most: usize) -> Result<boo
     requires { 1 ≤ most }
 {
     let mut places = RealPlaces::over(alloc, MemoryOutside::make(files, most));
-    let file = places.reach(alloc, "a")?;
-    let input = places.reach(alloc, "-")?;
-    let facts = [
-        is_read_whole(alloc, &mut places, file)?,
-        is_read_whole(alloc, &mut places, input)?,
-        places.reach(alloc, "b") == Err(PortFault::Failed),
-    ];
-    Ok(facts == [true, true, true])
+    let read = both_are_read(alloc, &mut places)?;
+    Ok(read && places.reach(alloc, "b") == Err(PortFault::Failed))
 }
 
 #[test]
@@ -197,18 +207,22 @@ fn files_in_memory_serve(rt: HostRuntime) -> Result<(), Fail> {
     must(memory_serves(rt.alloc(), &files, 100)?, "100 bytes")
 }
 
-// How much is shown of an empty file by a runtime that is lent, and the first place of one that is owned.
+// How much is shown of an empty file.
+fn shown_of_nothing<P: Places>(alloc: Global, places: &mut P) -> Result<usize, PortFault>
+    requires { (P.world places.old).reached ≡ 0 }
+{
+    let empty = places.reach(alloc, "/dev/null")?;
+    Ok(places.fill(empty)?.len())
+}
+
+// The same by a runtime that is lent, and the first place of one that is owned.
 fn real_runtime(rt: HostRuntime) -> Result<(usize, u32), Fail> {
     let alloc = rt.alloc();
-    let mut lent = RealPlaces::make(alloc, &rt);
-    let empty = lent.reach(alloc, "/dev/null")?;
-    let shown = lent.fill(empty)?.len();
-    let mut owned = RealPlaces::make(alloc, rt);
-    Ok((shown, owned.reach(alloc, "-")?))
+    let shown = shown_of_nothing(alloc, &mut RealPlaces::make(alloc, &rt))?;
+    Ok((shown, RealPlaces::make(alloc, rt).reach(alloc, "-")?))
 }
 
 #[test]
 fn the_real_runtime_serves(rt: HostRuntime) -> Result<(), Fail> {
-    assert_eq!(rt; real_runtime(rt)?, (0, 0));
-    Ok(())
+    must(real_runtime(rt)? == (0, 0), "the real runtime")
 }
