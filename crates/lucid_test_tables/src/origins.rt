@@ -2,6 +2,7 @@
 use crate::tables::scoped;
 use crate::told::{first_false, none_wrong};
 use lucid_compile::{Origins, find_origins};
+use lucid_scope::Scoped;
 use std::alloc::Global;
 use std::test::Fail;
 
@@ -89,10 +90,15 @@ fn wrong_list(alloc: Global, found: &Origins, row: &Row) -> Result<Option<usize>
     ]))
 }
 
-// The same of the row's source.
-fn wrong_of_row(alloc: Global, row: &Row) -> Result<Option<usize>, Fail> {
-    let found = find_origins(alloc, &scoped(alloc, row.0.as_bytes())?)?;
+// The same of the row's source, once its names are resolved.
+fn wrong_of_names(alloc: Global, scoped: &Scoped, row: &Row) -> Result<Option<usize>, Fail> {
+    let found = find_origins(alloc, scoped)?;
     wrong_list(alloc, &found, row)
+}
+
+fn wrong_of_row(alloc: Global, row: &Row) -> Result<Option<usize>, Fail> {
+    let scoped = scoped(alloc, row.0.as_bytes())?;
+    wrong_of_names(alloc, &scoped, row)
 }
 
 #[test]

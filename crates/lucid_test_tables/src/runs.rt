@@ -1,9 +1,8 @@
 //! Runs of sources by the plain evaluator. Each row is worked out by hand.
+use crate::tables::tree_of;
 use crate::told::{first_false, must};
 use crate::values::{shows, streams_of};
-use lucid_parse::parse;
 use lucid_ports::{MemorySink, Options, RunFault, Summary};
-use lucid_scan::scan;
 use lucid_test_programs::{COUNTING, DEEP_TREE, NO_VALUE, run};
 use std::alloc::Global;
 use std::test::Fail;
@@ -22,8 +21,7 @@ fn three_lines(
     source: &str,
     failures: &[u64],
 ) -> Result<(Result<Summary, RunFault>, MemorySink), Fail> {
-    let tokens = scan(alloc, source.as_bytes())?;
-    let tree = parse(alloc, source.as_bytes(), &tokens)?;
+    let tree = tree_of(alloc, source.as_bytes())?;
     let mut out = MemorySink::make(alloc, 100, Vec::from_slice(alloc, failures)?);
     let options = Options {
         count: 3,

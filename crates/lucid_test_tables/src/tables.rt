@@ -1,4 +1,5 @@
 //! The worked programs without inputs, as trees and as tables: at each limit both have the same values.
+ghost use Rattle.std.specs.Prelude.{IfOk};
 ghost use Rattle.lucid_tree.specs.WellMade.{IsWellMade};
 
 use crate::table_value::{Context, Evaluator, Point};
@@ -61,10 +62,17 @@ fn table_values(alloc: Global, program: &Program, count: u32, limit: u32) -> Res
     Ok(text)
 }
 
+/// The tree that a source spells.
+pub(crate) fn tree_of(alloc: Global, source: &[u8]) -> Result<Tree, Fail>
+    ensures { IfOk result (λ tree. IsWellMade tree) }
+{
+    let tokens = scan(alloc, source)?;
+    Ok(parse(alloc, source, &tokens)?)
+}
+
 /// The names of a source are resolved.
 pub(crate) fn scoped(alloc: Global, source: &[u8]) -> Result<Scoped, Fail> {
-    let tokens = scan(alloc, source)?;
-    Ok(resolve_owned(alloc, parse(alloc, source, &tokens)?)?)
+    Ok(resolve_owned(alloc, tree_of(alloc, source)?)?)
 }
 
 // The values of the tree at a limit, if they are those of the table.

@@ -1,6 +1,6 @@
 //! The values of the worked programs by the plain evaluator.
+use crate::tables::tree_of;
 use crate::told::must;
-use lucid_parse::parse;
 use lucid_scan::{ScanRefusal, scan};
 use lucid_test_programs::{
     IN_CONTEXTS, OVER_INPUTS, OVER_SPACE, OVER_TIME, Stream, UNDEFINED, Worked, approximation,
@@ -48,8 +48,7 @@ fn value_at(
     time: u32,
     limit: u32,
 ) -> Result<Option<Value>, Fail> {
-    let tokens = scan(alloc, source.as_bytes())?;
-    let tree = parse(alloc, source.as_bytes(), &tokens)?;
+    let tree = tree_of(alloc, source.as_bytes())?;
     let value = approximation(alloc, streams, &tree, u64::from(time), 0, limit)?;
     Ok(value)
 }
