@@ -46,7 +46,6 @@ impl FailAt {
 }
 
 /// Places over files in memory, which tell their bytes and fail where they are told to.
-#[derive(Drop)]
 pub struct MemoryPlaces {
     files: Vec<MemoryFile>,
     failures: Vec<FailAt>,
@@ -54,6 +53,20 @@ pub struct MemoryPlaces {
     places: Vec<MemoryPlace>,
     faults: u64,
     late: u64,
+}
+
+// Not derived: a derived one is proved again wherever one is dropped.
+impl Drop for MemoryPlaces {
+    fn drop(self) {
+        let MemoryPlaces {
+            files,
+            failures,
+            names,
+            places,
+            faults,
+            late,
+        } = self;
+    }
 }
 
 #[derive(Clone, Copy)]

@@ -26,11 +26,21 @@ pub(crate) struct Site {
 
 /// Noted positions, seen as a finite map from a node, a tag and a key to a number, and the number of notes that were missed for
 /// want of memory.
-#[derive(Drop)]
 pub struct Positions {
     alloc: Global,
     sites: IndexMap<Site, Notes, BuildHasherDefault<KeyHasher>>,
     missed: u64,
+}
+
+// Not derived: a derived one is proved again wherever one is dropped.
+impl Drop for Positions {
+    fn drop(self) {
+        let Positions {
+            alloc,
+            sites,
+            missed,
+        } = self;
+    }
 }
 
 impl Model for Positions {

@@ -23,7 +23,6 @@ use std::marker::Model;
 /// That key, where there is one, is held. On demand it keeps the held keys in the order of their last touches too.
 ///
 /// Once memory was refused, it asks for none until a key was removed: each asking for more of a large store costs much.
-#[derive(Drop)]
 pub struct Warehouse {
     datons: Datons,
     lost: u64,
@@ -32,6 +31,19 @@ pub struct Warehouse {
     full: bool,
     // The places of the entries in the order of their last touches, where that is known.
     order: Option<Order>,
+}
+
+// Not derived: a derived one is proved again wherever one is dropped.
+impl Drop for Warehouse {
+    fn drop(self) {
+        let Warehouse {
+            datons,
+            lost,
+            touched,
+            full,
+            order,
+        } = self;
+    }
 }
 
 impl Model for Warehouse {

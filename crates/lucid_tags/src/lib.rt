@@ -109,9 +109,15 @@ impl Tag {
 }
 
 /// The contexts that are known, and a tag for each of them at each space.
-#[derive(Drop)]
 pub struct Tags {
     table: Table,
+}
+
+// Not derived: a derived one is proved again wherever one is dropped.
+impl Drop for Tags {
+    fn drop(self) {
+        let Tags { table } = self;
+    }
 }
 
 impl Model for Tags {

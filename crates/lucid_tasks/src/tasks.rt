@@ -16,11 +16,17 @@ use std::marker::Model;
 
 /// Waiting tasks, seen as a finite map from slots to rows. The parent of a row is a row too, which has asked it for the part.
 /// Slots rise in the order in which the rows were made. A slot is below 2^32 - 1.
-#[derive(Drop)]
 pub struct Tasks {
     rows: Rows,
     // The slots of the ready rows, in order.
     ready: Vec<usize>,
+}
+
+// Not derived: a derived one is proved again wherever one is dropped.
+impl Drop for Tasks {
+    fn drop(self) {
+        let Tasks { rows, ready } = self;
+    }
 }
 
 impl Model for Tasks {
