@@ -16,6 +16,7 @@ use lucid_top::Task;
 use lucid_value::Name;
 use lucid_words::{Words, WordsRefusal, read_words};
 use std::alloc::{AllocError, Global};
+use std::mem;
 
 /// What is asked for: words of `lucid` that make a certificate, the names whose values are told, which are all where there are none, and the
 /// form in which they are.
@@ -274,8 +275,8 @@ fn names_in(alloc: Global, list: &str, program: &str) -> Result<Vec<Name>, Words
     ensures { Answers (λ names. names.items) (names_in list.now program.now) result }
 {
     let texts = words_of_list(alloc, list, program)?;
-    let words = read_words(alloc, &texts)?;
-    Ok(words.columns)
+    let mut words = read_words(alloc, &texts)?;
+    Ok(mem::replace(&mut words.columns, Vec::new(alloc)))
 }
 
 // The names that are asked for.

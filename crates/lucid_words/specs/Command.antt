@@ -1,9 +1,10 @@
 -- The command line as `clap` is told of it: one simple command without help and version flags.
-use Rattle.std.specs.Prelude.{ℕ, ◌-◌, ◌^◌, true, List, [], ◌∷◌, Some, codes, pos, fold}
-use Rattle.clap.specs.Words.{App, Rule, Text, new_app, new_rule, with_rule}
+use Rattle.std.specs.Prelude.{ℕ, ◌-◌, ◌^◌, true, List, [], ◌∷◌, Some, Result, IfOk, ◌≡◌, codes, pos, fold}
+use Rattle.clap.specs.Words.{App, Rule, Text, app_of, new_app, new_rule, with_rule}
 use Rattle.clap.specs.Simple.{on_top}
 use Rattle.lucid_ports.specs.Limits.{most_asked}
 use Rattle.clap.specs.declared.builder.action.ArgAction.TheVariants.{Append, SetTrue}
+use Rattle.clap.specs.declared.builder.command.Command.{Command}
 use Rattle.clap.specs.declared.builder.value_parser.ValueParser.{ValueParser}
 use Rattle.clap.specs.declared.builder.value_parser.ValueParser.TheVariants as vp
 
@@ -47,6 +48,10 @@ positional_rules = new_rule (codes "program") ∷ record (new_rule (codes "input
 -- A command with further arguments, in order.
 abbrev pub with_rules : App → List Rule → App
 with_rules = fold with_rule
+
+-- What was made of a command, where it could be made, is this command with further arguments, in order.
+abbrev pub AddsRules : {E : Type 0} → List Rule → Result Command E → Result Command E → Type 0
+AddsRules rules before after = (app : App) → IfOk before (λ c. app_of c ≡ app) → IfOk after (λ c. app_of c ≡ with_rules app rules)
 
 -- The command without an argument: the words do not begin with the program's own name, and there is no help flag.
 abbrev pub bare_command : App

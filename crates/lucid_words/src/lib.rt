@@ -53,7 +53,6 @@ pub enum PolicyWord {
 }
 
 /// What the words ask for. An option that is not given has its default.
-#[derive(Drop)]
 pub struct Words {
     /// The program.
     pub source: Source,
@@ -83,6 +82,28 @@ pub struct Words {
     pub flat: bool,
     /// `--from-flat`.
     pub from_flat: bool,
+}
+
+// Not derived: a derived one is proved again wherever one is dropped.
+impl Drop for Words {
+    fn drop(self) {
+        let Words {
+            source,
+            given,
+            options,
+            policy,
+            age,
+            room,
+            stats,
+            print,
+            columns,
+            cycles,
+            why,
+            check,
+            flat,
+            from_flat,
+        } = self;
+    }
 }
 
 /// Why words were not read.

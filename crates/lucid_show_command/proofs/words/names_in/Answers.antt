@@ -13,6 +13,6 @@ returns-in_err-words c =
 
 pub returns : goal.returns
 returns c =
-    ap (λ (texts : List Text). option_map (λ (w : PlainWords). w.columns) (words_asked texts))
+    rw c.replace.ensures.value (ap (λ (texts : List Text). option_map (λ (w : PlainWords). w.columns) (words_asked texts))
     (sym (ap (map (string_bytes {Z = Rattle.std.specs.Global.Global})) c.deref.ensures.value ∙ c.in_ok-texts.ensures))
-    ∙ ap (option_map (λ (w : PlainWords). w.columns)) c.in_ok-words.ensures.asked
+    ∙ ap (option_map (λ (w : PlainWords). w.columns)) c.in_ok-words.ensures.asked)

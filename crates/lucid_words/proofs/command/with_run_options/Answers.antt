@@ -1,13 +1,11 @@
-use Rattle.lucid_words.proofs.Common.{refl, IfOk-weaker}
-use Rattle.lucid_words.proofs.Adds.{adds}
 use Rattle.lucid_words.proofs.command.with_run_options.Goals as goal
 
 -- each argument in turn
 pub returns : goal.returns
-returns c =
-    let after1 = adds _ _ _ _ _ c.in_ok-arg.ensures c.number_option.ensures.local c.number_option.ensures.rule refl in
-    let after2 = adds _ _ _ _ _ c.in_ok-arg-2.ensures c.number_option-2.ensures.local c.number_option-2.ensures.rule after1 in
-    let after3 = adds _ _ _ _ _ c.in_ok-arg-3.ensures c.text_option.ensures.local c.text_option.ensures.rule after2 in
-    let after4 = adds _ _ _ _ _ c.in_ok-arg-4.ensures c.number_option-3.ensures.local c.number_option-3.ensures.rule after3 in
-    let after5 = adds _ _ _ _ _ c.in_ok-arg-5.ensures c.number_option-4.ensures.local c.number_option-4.ensures.rule after4 in
-    IfOk-weaker c.arg-6.result _ _ (λ m added. adds _ _ _ _ _ added c.flag.ensures.local c.flag.ensures.rule after5) c.arg-6.ensures
+returns c = λ app was.
+    let after1 = c.with_number-command.ensures _ was in
+    let after2 = c.with_number-command-2.ensures _ after1 in
+    let after3 = c.with_text-command.ensures _ after2 in
+    let after4 = c.with_number-command-3.ensures _ after3 in
+    let after5 = c.with_number-command-4.ensures _ after4 in
+    c.with_flag.ensures _ after5
