@@ -2,6 +2,7 @@
 
 use crate::Operator;
 use lucid_value::{Name, Value};
+use std::alloc::AllocError;
 
 /// What a definition defines its name as.
 #[derive(Clone, Copy)]
@@ -20,16 +21,23 @@ pub struct CalledOperator {
 }
 
 /// A definition: the place of its block, its own place and its name.
-#[derive(Clone, Copy)]
+#[derive(Copy)]
 pub struct Definition<N> {
     pub block: u32,
     pub at: u32,
     pub name: N,
 }
 
+// Not derived: a derived one is proved field by field.
+impl<N: Copy> Clone for Definition<N> {
+    fn clone(&self) -> Result<Definition<N>, AllocError> {
+        Ok(*self)
+    }
+}
+
 /// What is open round the operand that is read. `at` is the place of a form, and `allowed` the least level that the place of the
 /// whole form allows.
-#[derive(Clone, Copy)]
+#[derive(Copy)]
 pub enum Frame<N> {
     /// An operator between or before its operands, the last of which is read.
     Operator { op: Operator, at: u32, allowed: u8 },
@@ -49,9 +57,16 @@ pub enum Frame<N> {
     RightSide(Defines, Definition<N>),
 }
 
+// Not derived: a derived one is proved variant by variant.
+impl<N: Copy> Clone for Frame<N> {
+    fn clone(&self) -> Result<Frame<N>, AllocError> {
+        Ok(*self)
+    }
+}
+
 /// What comes next. `at` is the place of a form, `allowed` the least level that the place of the form allows, and `block` the
 /// place of a block.
-#[derive(Clone, Copy)]
+#[derive(Copy)]
 pub enum Focus<N> {
     /// An operand of this level or a tighter one.
     Await { allowed: u8 },
@@ -75,8 +90,15 @@ pub enum Focus<N> {
     Ready(Definition<N>),
 }
 
+// Not derived: a derived one is proved variant by variant.
+impl<N: Copy> Clone for Focus<N> {
+    fn clone(&self) -> Result<Focus<N>, AllocError> {
+        Ok(*self)
+    }
+}
+
 /// A node of the tree that is read, with its place. Nodes are written behind their parts.
-#[derive(Clone, Copy)]
+#[derive(Copy)]
 pub enum Item<N, V> {
     Const { at: u32, value: V },
     Name { at: u32, name: N },
@@ -98,6 +120,13 @@ pub enum Item<N, V> {
     Def { defines: Defines, at: u32, name: N },
     /// A block of the tree and of the list of definitions before it.
     Block { at: u32 },
+}
+
+// Not derived: a derived one is proved variant by variant.
+impl<N: Copy, V: Copy> Clone for Item<N, V> {
+    fn clone(&self) -> Result<Item<N, V>, AllocError> {
+        Ok(*self)
+    }
 }
 
 /// A node that borrows its name or its value.

@@ -1,7 +1,7 @@
 -- A step leads one terminal on, or shows the fault.
 use Rattle.lucid_parse.proofs.Common.{state}
 use Rattle.lucid_parse.proofs.Reading.{terminal_read, terminal_stops, terminals_stop, terminals_read}
-use Rattle.lucid_parse.proofs.nodes.read_nodes.Goals as goal
+use Rattle.lucid_parse.proofs.nodes.write_nodes.Goals as goal
 
 pub returns-in-None-clause-refused : goal.returns-in-None-clause-refused
 returns-in-None-clause-refused c =
