@@ -25,13 +25,23 @@ pub enum Binding {
 }
 
 /// A tree that is well made and whose names have no fault, with what each name belongs to.
-#[derive(Drop)]
 pub struct Scoped {
     pub(crate) tree: Tree,
     pub(crate) inputs: Vec<Name>,
     pub(crate) bindings: IndexMap<u32, Binding>,
     ghost resolved: { ∥ IsResolved tree inputs.items (λ at. lookup (nat_eq at) bindings.entries) ∥₁ },
     ghost well_made: { IsWellMade tree } by { IsWellMade-prop tree },
+}
+
+// Not derived: a derived one is proved again wherever one is dropped.
+impl Drop for Scoped {
+    fn drop(self) {
+        let Scoped {
+            tree,
+            inputs,
+            bindings,
+        } = self;
+    }
 }
 
 impl Scoped {

@@ -101,6 +101,31 @@ impl Inputs {
     }
 }
 
+// The free names of the marks, in order, behind the names that are there, without repeats. It owns neither list.
+fn add_inputs(
+    alloc: Global,
+    names: &mut Vec<Name>,
+    set: &mut IndexSet<Vec<u8>, NameHashing>,
+    marks: &[Mark],
+) -> Result<(), AllocError>
+    requires { map key_bytes set.old.keys ≡ names.old.items }
+    ensures set { OnOk result (map key_bytes set.new.keys ≡ names.new.items) }
+    ensures names { OnOk result (names.new.items ≡ fold with_mark names.old.items marks.now) }
+{
+    for mark in marks {
+        match &mark.what {
+            What::Named { name, owner: None } => add_input(alloc, names, set, name)?,
+            What::Called {
+                name,
+                owner: None,
+                ..
+            } => add_input(alloc, names, set, name)?,
+            _ => {}
+        }
+    }
+    Ok(())
+}
+
 /// The free names of the marks, in order, without repeats.
 pub(crate) fn inputs_of(
     alloc: Global,
@@ -111,17 +136,7 @@ pub(crate) fn inputs_of(
 {
     let mut names = Vec::new(alloc);
     let mut set = IndexSet::with_hasher(alloc, hashing);
-    for mark in marks {
-        match &mark.what {
-            What::Named { name, owner: None } => add_input(alloc, &mut names, &mut set, name)?,
-            What::Called {
-                name,
-                owner: None,
-                ..
-            } => add_input(alloc, &mut names, &mut set, name)?,
-            _ => {}
-        }
-    }
+    add_inputs(alloc, &mut names, &mut set, marks)?;
     Ok(Inputs { names, set })
 }
 
