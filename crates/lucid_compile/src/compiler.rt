@@ -307,21 +307,34 @@ fn copied(alloc: Global, names: &[Name]) -> Result<Vec<Name>, AllocError>
     Ok(made)
 }
 
-// Fills the rows with those of a tree that was resolved, and links them. The number of its root's node.
-fn fill(alloc: Global, rows: &mut Rows, scoped: &Scoped) -> Result<u32, AllocError>
+// Fills the rows with those of a tree that was resolved, and links them. The number of its root's node. It owns neither list.
+fn fill_by(
+    alloc: Global,
+    rows: &mut Rows,
+    ids: &mut Vec<u32>,
+    numbering: &mut Numbering,
+    scoped: &Scoped,
+) -> Result<u32, AllocError>
     requires { lists rows.old ≡ no_lists }
     ensures { IfOk result (λ root. AreRowsOf scoped.now (lists rows.new) root) }
 {
     let tree = scoped.tree();
     let scope = rows.open(0, ScopeKind::Root)?;
-    let mut ids = Vec::new(alloc);
-    let root = add_tree(alloc, rows, &mut ids, tree, Here { scope, level: 0 })?;
-    let mut numbering = Numbering::make(alloc);
+    let root = add_tree(alloc, rows, ids, tree, Here { scope, level: 0 })?;
     numbering.number_all(&rows.keys)?;
-    let numbering = &numbering;
     let source = Source { scoped, numbering };
     link_rows(&source, rows)?;
     Ok(root)
+}
+
+// The same, with the lists that this takes.
+fn fill(alloc: Global, rows: &mut Rows, scoped: &Scoped) -> Result<u32, AllocError>
+    requires { lists rows.old ≡ no_lists }
+    ensures { IfOk result (λ root. AreRowsOf scoped.now (lists rows.new) root) }
+{
+    let mut ids = Vec::new(alloc);
+    let mut numbering = Numbering::make(alloc);
+    fill_by(alloc, rows, &mut ids, &mut numbering, scoped)
 }
 
 /// The program of a tree that was resolved. Its table keeps the tree: the same approximations at every limit and point, also with

@@ -1,23 +1,23 @@
 use Rattle.lucid_compile.proofs.Common.{subst, lists, AddsTree, OneScope, link}
 use Rattle.lucid_equations.specs.declared.rows.ScopeKind.TheVariants.{Root}
 use Rattle.lucid_compile.proofs.Final.{keys-apart}
-use Rattle.lucid_compile.proofs.compiler.fill.Goals as goal
+use Rattle.lucid_compile.proofs.compiler.fill_by.Goals as goal
 
 pub number_all-requires-clause-names : goal.number_all-requires-clause-names
 number_all-requires-clause-names c =
-    (keys-apart (record { numbering = c.make-numbering.result; scoped = c.args.scoped.now }) (lists c.args.rows.now) (lists c.open.new.self)
+    (keys-apart (record { numbering = c.args.numbering.now; scoped = c.args.scoped.now }) (lists c.args.rows.now) (lists c.open.new.self)
     (lists c.add_tree.new.rows) c.tree-tree.result.now c.in_ok-scope.scope c.in_ok-root.root c.tree-tree.ensures.well_made c.tree-tree.ensures.resolved
     c.requires c.in_ok-scope.ensures c.tree-tree.ensures.value c.in_ok-root.ensures.adds).names
 
 pub number_all-requires-clause-places : goal.number_all-requires-clause-places
 number_all-requires-clause-places c =
-    (keys-apart (record { numbering = c.make-numbering.result; scoped = c.args.scoped.now }) (lists c.args.rows.now) (lists c.open.new.self)
+    (keys-apart (record { numbering = c.args.numbering.now; scoped = c.args.scoped.now }) (lists c.args.rows.now) (lists c.open.new.self)
     (lists c.add_tree.new.rows) c.tree-tree.result.now c.in_ok-scope.scope c.in_ok-root.root c.tree-tree.ensures.well_made c.tree-tree.ensures.resolved
     c.requires c.in_ok-scope.ensures c.tree-tree.ensures.value c.in_ok-root.ensures.adds).places
 
 pub number_all-requires-clause-functions : goal.number_all-requires-clause-functions
 number_all-requires-clause-functions c =
-    (keys-apart (record { numbering = c.make-numbering.result; scoped = c.args.scoped.now }) (lists c.args.rows.now) (lists c.open.new.self)
+    (keys-apart (record { numbering = c.args.numbering.now; scoped = c.args.scoped.now }) (lists c.args.rows.now) (lists c.open.new.self)
     (lists c.add_tree.new.rows) c.tree-tree.result.now c.in_ok-scope.scope c.in_ok-root.root c.tree-tree.ensures.well_made c.tree-tree.ensures.resolved
     c.requires c.in_ok-scope.ensures c.tree-tree.ensures.value c.in_ok-root.ensures.adds).functions
 
