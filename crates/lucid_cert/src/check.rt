@@ -36,13 +36,25 @@ use lucid_value::Value;
 use std::alloc::{AllocError, Global};
 
 // A certificate under check, with its contexts as tags.
-#[derive(Drop)]
 struct Check<'a> {
     alloc: Global,
     program: &'a Program,
     judgments: &'a [JudgmentRow],
     tags: Tags,
     contexts: Vec<Option<Tag>>,
+}
+
+// Not derived: a derived one is proved again wherever one is dropped.
+impl<'a> Drop for Check<'a> {
+    fn drop(self) {
+        let Check {
+            alloc,
+            program,
+            judgments,
+            tags,
+            contexts,
+        } = self;
+    }
 }
 
 // A use in its turn: the look that stands next, and the number that the judgment tells for it.

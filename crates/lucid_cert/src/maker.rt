@@ -36,13 +36,13 @@ use lucid_ports::Places;
 use lucid_tags::{Key, Tags};
 use lucid_value::Value;
 use std::alloc::{AllocError, Global};
+use std::mem;
 
 // How many judgments there may be, and how many uses of one.
 const MOST: usize = u32::MAX as usize;
 
 /// A certificate in the making: the judgments that are made, each with the key of its node in its context at its point, and those that
 /// wait, the innermost last.
-#[derive(Drop)]
 pub(crate) struct Maker<'a> {
     alloc: Global,
     program: &'a Program,
@@ -50,6 +50,20 @@ pub(crate) struct Maker<'a> {
     keys: IndexSet<Key>,
     judgments: Vec<JudgmentRow>,
     waiting: Vec<Making>,
+}
+
+// Not derived: a derived one is proved again wherever one is dropped.
+impl<'a> Drop for Maker<'a> {
+    fn drop(self) {
+        let Maker {
+            alloc,
+            program,
+            tags,
+            keys,
+            judgments,
+            waiting,
+        } = self;
+    }
 }
 
 // The key of a node in a context at a point.
@@ -125,19 +139,19 @@ impl<'a> Maker<'a> {
         self.waiting.pop()
     }
 
-    /// The certificate whose last judgment is the root's at a time, which is made.
-    pub(crate) fn finish(self, root: Position) -> Result<Why, AllocError>
-        requires sound { IsSoundMaker self }
-        requires root { IsRoot (table_in self) root }
-        requires made { IsMade (judgments_of self) root 0 }
-        ensures { IfOk result (λ w. (b : Elements) → AreFollowing b self.entry → IsCertificate (table_in self.entry) b w root.time) }
+    /// The certificate whose last judgment is the root's at a time, which is made. It takes the judgments with it.
+    pub(crate) fn finish(&mut self, root: Position) -> Result<Why, AllocError>
+        requires sound { IsSoundMaker self.old }
+        requires root { IsRoot (table_in self.old) root }
+        requires made { IsMade (judgments_of self.old) root 0 }
+        ensures { IfOk result (λ w. (b : Elements) → AreFollowing b self.old → IsCertificate (table_in self.old) b w root.time) }
     {
         let Some(number) = self.number_of(root, 0) else {
             unreachable!()
         };
         let contexts = rows_of(self.alloc, &self.tags)?;
-        let mut judgments = self.judgments;
-        judgments.truncate(number + 1);
+        self.judgments.truncate(number + 1);
+        let judgments = mem::replace(&mut self.judgments, Vec::new(self.alloc));
         Ok(Why {
             contexts: ContextRows::from_vec(contexts),
             judgments: JudgmentRows::from_vec(judgments),

@@ -10,6 +10,7 @@ use indexmap::IndexSet;
 use lucid_equations::Table;
 use lucid_lists::Stack;
 use std::alloc::{AllocError, Global};
+use std::mem;
 
 /// A line of an outline: the judgment that asks, how deep the line stands, and whether what is asked for was told above.
 #[derive(Clone, Copy)]
@@ -27,12 +28,23 @@ struct Waiting {
 }
 
 // An outline in the making: the lines that wait, what was told, and the lines so far.
-#[derive(Drop)]
 struct Telling {
     alloc: Global,
     waiting: Stack<Waiting>,
     told: IndexSet<Cell>,
     entries: Vec<Entry>,
+}
+
+// Not derived: a derived one is proved again wherever one is dropped.
+impl Drop for Telling {
+    fn drop(self) {
+        let Telling {
+            alloc,
+            waiting,
+            told,
+            entries,
+        } = self;
+    }
 }
 
 impl Telling {
@@ -126,7 +138,7 @@ pub fn outline(
     telling.wait_for(&found, 1)?;
     'steps: for _ in 0..u64::MAX {
         let Some(next) = telling.waiting.pop() else {
-            return Ok(telling.entries);
+            return Ok(mem::replace(&mut telling.entries, Vec::new(alloc)));
         };
         telling.tell(table, judgments, next)?;
     }

@@ -10,14 +10,26 @@ use indexmap::IndexSet;
 use lucid_equations::Table;
 use lucid_lists::Stack;
 use std::alloc::{AllocError, Global};
+use std::mem;
 
 // A walk: the judgments that wait, those that were visited, what was asked for so far, and the judgments that ask for it.
-#[derive(Drop)]
 struct Walk {
     waiting: Stack<u64>,
     seen: IndexSet<u64>,
     cells: IndexSet<Cell>,
     found: Vec<u64>,
+}
+
+// Not derived: a derived one is proved again wherever one is dropped.
+impl Drop for Walk {
+    fn drop(self) {
+        let Walk {
+            waiting,
+            seen,
+            cells,
+            found,
+        } = self;
+    }
 }
 
 // The uses of the judgment of a number.
@@ -107,7 +119,7 @@ pub fn needs(
     };
     'steps: for _ in 0..u64::MAX {
         let Some(number) = walk.waiting.pop() else {
-            return Ok(walk.found);
+            return Ok(mem::replace(&mut walk.found, Vec::new(alloc)));
         };
         walk.step(table, judgments, number)?;
     }

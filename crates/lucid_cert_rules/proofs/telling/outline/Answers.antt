@@ -10,4 +10,4 @@ steps-preserved c = λ all on.
 pub returns-in_default : goal.returns-in_default
 returns-in_default c =
     let none = rw c.in_default.is at c.pop.ensures in
-    c.steps.invariant c.steps.telling.entries.items (none_waits c.args.table.now (map plain_judgment c.args.judgments.now) c.steps.telling none.0)
+    rw c.replace.ensures.value (c.steps.invariant c.steps.telling.entries.items (none_waits c.args.table.now (map plain_judgment c.args.judgments.now) c.steps.telling none.0))

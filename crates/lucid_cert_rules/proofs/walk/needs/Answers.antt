@@ -12,4 +12,4 @@ steps-preserved c = λ all comes. c.steps.invariant all (stands_alike (sym c.in-
 pub returns-in_default : goal.returns-in_default
 returns-in_default c =
     let none = rw c.in_default.is at c.pop.ensures in
-    c.steps.invariant c.steps.walk.found.items (stands_alike (sym none.0) refl refl refl no_more)
+    rw c.replace.ensures.value (c.steps.invariant c.steps.walk.found.items (stands_alike (sym none.0) refl refl refl no_more))
