@@ -24,9 +24,15 @@ use std::marker::Model;
 
 /// An engine for one program over its inputs. Whatever the policy drops at each turn, and whatever is picked, a value that is demanded
 /// is the one that the program means.
-#[derive(Drop)]
 pub struct Engine<R: Retire, S: Pick> {
     evaluation: Evaluation<R, S>,
+}
+
+// Not derived: a derived one is proved again wherever one is dropped.
+impl<R: Retire, S: Pick> Drop for Engine<R, S> {
+    fn drop(self) {
+        let Engine { evaluation } = self;
+    }
 }
 
 impl<R: Retire, S: Pick> Model for Engine<R, S> {

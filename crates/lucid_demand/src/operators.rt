@@ -1,6 +1,9 @@
 //! An operator is asked for. Where both its arguments are told at once, as those of `a + 1` are where `a` is held, it is applied at once, and has no
 //! row.
-ghost use Rattle.std.specs.Prelude.{◌≡◌, ◌<◌, None, IfSome, IfOk, OnOk, length};
+ghost use Rattle.std.specs.Prelude.{◌≡◌, ◌<◌, ◌∷◌, [], None, IfSome, IfOk, OnOk, length};
+ghost use Rattle.lucid_value.specs.View.{plain};
+ghost use Rattle.lucid_ops.specs.Algebra.{algebra};
+ghost use Rattle.lucid_ops.specs.Arity.{arity};
 ghost use Rattle.lucid_tags.specs.Known.{IsKnown};
 ghost use Rattle.lucid_tasks.specs.Rows.{IsIdlePart};
 ghost use Rattle.lucid_demand.specs.Evaluating.{gave};
@@ -19,7 +22,7 @@ use lucid_retire::Retire;
 use lucid_schedule::Pick;
 use lucid_tasks::{Key, Part, Task};
 use lucid_value::Value;
-use std::alloc::AllocError;
+use std::alloc::{AllocError, Global};
 
 /// An operator of two arguments, and their nodes.
 #[derive(Clone, Copy)]
@@ -60,6 +63,15 @@ enum Argument {
     Told(Value),
     Absent(Aim),
     Other,
+}
+
+// An operator applied to two values, which are dropped here: so none is owned any more where memory lacks, or lacks later.
+#[inline(always)]
+fn applied_to_both(alloc: Global, op: Op, first: Value, second: Value) -> Result<Value, AllocError>
+    requires { arity op ≡ 2 }
+    ensures { IfOk result (λ value. plain value ≡ algebra op (plain first ∷ plain second ∷ [])) }
+{
+    apply_to_two(alloc, op, &first, &second)
 }
 
 impl<R: Retire, S: Pick> Evaluation<R, S> {
@@ -147,7 +159,7 @@ impl<R: Retire, S: Pick> Evaluation<R, S> {
                 return Ok(None);
             }
         };
-        let value = apply_to_two(self.alloc, operation.op, &first, &second)?;
+        let value = applied_to_both(self.alloc, operation.op, first, second)?;
         self.give_at_once(part, key, value, answer)?;
         Ok(None)
     }
