@@ -1,9 +1,9 @@
 //! The program with its columns as the subject, side by side over space.
 ghost use Rattle.std.specs.Prelude.{◌≡◌, ◌≤◌, ◌<◌, ◌+◌, ◌∷◌, ℕ, List, IsTrue, IfOk, IfErr, OnOk, All, Some, slice_get, length, drop};
-ghost use Rattle.lucid_tree.specs.Tree.{PlainTree, block};
+ghost use Rattle.lucid_tree.specs.Tree.{PlainTree, block, name as name_tree, sby_of};
 ghost use Rattle.lucid_tree.specs.Env.{definition};
 ghost use Rattle.lucid_tree.specs.WellMade.{IsWellMade, places};
-ghost use Rattle.lucid_columns.specs.Columns.{is_plain, defines_plain, over_space, with_columns, AreColumns, RefusesColumns};
+ghost use Rattle.lucid_columns.specs.Columns.{is_plain, defines_plain, over_space, with_columns, most_columns, AreColumns, RefusesColumns};
 ghost use Rattle.lucid_columns.specs.declared.refusal.ColumnRefusal.TheVariants.{NoMemory};
 
 use crate::ColumnRefusal;
@@ -96,17 +96,37 @@ fn beside(
     requires short { base ≤ 1048576 }
     ensures { IfOk result (λ e. e ≡ over_space base index first.now others.now) }
 {
-    let name = Tree {
-        at: base + index,
-        kind: Kind::Name(first.copy()?),
-    };
     let Some((next, rest)) = others.split_first() else {
-        return Ok(name);
+        return column_at(base + index, first);
     };
     let right = beside(alloc, base, index + 1, next, rest)?;
-    let kind = Kind::Sby(Box::new(alloc, name)?, Box::new(alloc, right)?);
+    beside_one(alloc, base, index, first, right)
+}
+
+// A column, at this place.
+fn column_at(at: u32, name: &Name) -> Result<Tree, AllocError>
+    ensures { IfOk result (λ e. e ≡ name_tree at name.now) }
+{
+    let kind = Kind::Name(name.copy()?);
+    Ok(Tree { at, kind })
+}
+
+// A column and what stands beside it.
+fn beside_one(
+    alloc: Global,
+    base: u32,
+    index: u32,
+    first: &Name,
+    right: Tree,
+) -> Result<Tree, AllocError>
+    requires few { index < 16 }
+    requires short { base ≤ 1048576 }
+    ensures { IfOk result (λ e. e ≡ sby_of (base + most_columns + index) (name_tree (base + index) first.now) right) }
+{
+    let right = Box::new(alloc, right)?;
+    let left = Box::new(alloc, column_at(base + index, first)?)?;
     Ok(Tree {
         at: base + MOST_COLUMNS + index,
-        kind,
+        kind: Kind::Sby(left, right),
     })
 }
