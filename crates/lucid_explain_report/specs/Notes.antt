@@ -88,7 +88,7 @@ is_start source ts =
 
 -- the words that look at another time: they move in it, or pick times
 abbrev pub is_moving : (word : List ℕ) → Bool
-is_moving word = list_any (same_bytes word) (codes "fby" ∷ codes "first" ∷ codes "next" ∷ [])
+is_moving word = same_bytes word (codes "fby") || same_bytes word (codes "first") || same_bytes word (codes "next")
 
 abbrev pub is_picking : (word : List ℕ) → Bool
 is_picking word =
@@ -100,7 +100,8 @@ is_timed word = is_moving word || is_picking word
 
 -- what ends a part of a definition that has no block in it
 abbrev pub is_breaking : (word : List ℕ) → Bool
-is_breaking word = list_any (same_bytes word) (codes ";" ∷ codes "=" ∷ codes "where" ∷ codes "end" ∷ [])
+is_breaking word =
+    same_bytes word (codes ";") || same_bytes word (codes "=") || same_bytes word (codes "where") || same_bytes word (codes "end")
 
 abbrev pub len_of_part : (source : List ℕ) → List Token → ℕ
 len_of_part source ts = prefix_len (λ t. not (is_breaking (text_in source t))) ts
@@ -131,7 +132,7 @@ first_outer source block = first_end (outer_at source block) block
 
 -- what ends the definitions of a block, or begins an inner one
 abbrev pub bounds_block : (word : List ℕ) → Bool
-bounds_block word = list_any (same_bytes word) (codes "where" ∷ codes "end" ∷ [])
+bounds_block word = same_bytes word (codes "where") || same_bytes word (codes "end")
 
 abbrev pub len_of_block : (source : List ℕ) → List Token → ℕ
 len_of_block source ts = prefix_len (λ t. not (bounds_block (text_in source t))) ts

@@ -157,7 +157,7 @@ fn is_start(source: &[u8], tokens: &[Token]) -> bool
 fn is_moving(word: &[u8]) -> bool
     ensures { result ≡ is_moving word.now }
 {
-    matches!(word, b"fby" | b"first" | b"next")
+    word == b"fby".as_slice() || word == b"first".as_slice() || word == b"next".as_slice()
 }
 
 // Whether the word picks times.
@@ -189,7 +189,10 @@ fn has_timed(source: &[u8], tokens: &[Token]) -> bool
 fn is_breaking(word: &[u8]) -> bool
     ensures { result ≡ is_breaking word.now }
 {
-    matches!(word, b";" | b"=" | b"where" | b"end")
+    word == b";".as_slice()
+        || word == b"=".as_slice()
+        || word == b"where".as_slice()
+        || word == b"end".as_slice()
 }
 
 // How many tokens such a part has with which these begin.
@@ -285,7 +288,7 @@ fn first_outer(source: &[u8], block: &[Token]) -> Option<Token>
 fn bounds_block(word: &[u8]) -> bool
     ensures { result ≡ bounds_block word.now }
 {
-    matches!(word, b"where" | b"end")
+    word == b"where".as_slice() || word == b"end".as_slice()
 }
 
 // How many tokens stand before that.
