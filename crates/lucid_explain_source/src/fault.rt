@@ -6,7 +6,7 @@ use lucid_scan::ScanRefusal;
 use lucid_scope::ScopeRefusal;
 
 /// Why a source is refused, in the order in which the causes are looked for. A place is an offset in bytes.
-#[derive(Clone, Copy, Debug, PartialEq, Eq)]
+#[derive(Clone, Copy, PartialEq, Eq)]
 pub enum Fault {
     /// It has more than 1,048,576 bytes.
     TooLong,
