@@ -2,7 +2,7 @@
 use crate::sources::NESTED_CURRENT;
 use crate::worked::{PLAIN, Worked};
 
-pub static IN_CONTEXTS: [Worked; 8] = [
+static IN_CONTEXTS: [Worked; 8] = [
     // At each time t the function, its parameter, n, and s at 0 to t; and k at 0 to 3.
     Worked {
         name: "current name inside a function",
@@ -74,3 +74,8 @@ pub static IN_CONTEXTS: [Worked; 8] = [
         ..PLAIN
     },
 ];
+
+/// Programs with calls and current names, without inputs.
+pub fn in_contexts() -> &'static [Worked] {
+    &IN_CONTEXTS
+}

@@ -2,7 +2,7 @@
 use crate::sources::{RUNNING_SUM, SALES};
 use crate::worked::{PLAIN, Worked};
 
-pub static OVER_INPUTS: [Worked; 15] = [
+static OVER_INPUTS: [Worked; 15] = [
     Worked {
         name: "two inputs",
         source: "a + b",
@@ -142,3 +142,8 @@ pub static OVER_INPUTS: [Worked; 15] = [
         ..PLAIN
     },
 ];
+
+/// Programs over inputs.
+pub fn over_inputs() -> &'static [Worked] {
+    &OVER_INPUTS
+}

@@ -1,7 +1,7 @@
 //! Programs over space, without inputs.
 use crate::worked::{PLAIN, Worked};
 
-pub static OVER_SPACE: [Worked; 9] = [
+static OVER_SPACE: [Worked; 9] = [
     // p at 0 to 5 and space 2, at 0 to 4 and space 1, at 0 to 3 and space 0. It needs a name for each time through the present one.
     Worked {
         name: "binomial numbers",
@@ -79,3 +79,8 @@ pub static OVER_SPACE: [Worked; 9] = [
         ..PLAIN
     },
 ];
+
+/// Programs over space, without inputs.
+pub fn over_space() -> &'static [Worked] {
+    &OVER_SPACE
+}

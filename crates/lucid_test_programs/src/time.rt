@@ -5,7 +5,7 @@ use crate::sources::{
 };
 use crate::worked::{PLAIN, Worked};
 
-pub static OVER_TIME: [Worked; 32] = [
+static OVER_TIME: [Worked; 32] = [
     Worked {
         name: "constant",
         source: "1",
@@ -271,3 +271,8 @@ pub static OVER_TIME: [Worked; 32] = [
         ..PLAIN
     },
 ];
+
+/// Programs over time, without inputs.
+pub fn over_time() -> &'static [Worked] {
+    &OVER_TIME
+}

@@ -2,7 +2,7 @@
 use crate::sources::{NO_VALUE, SEARCH_WITHOUT_END};
 use crate::worked::{PLAIN, Worked};
 
-pub static UNDEFINED: [Worked; 2] = [
+static UNDEFINED: [Worked; 2] = [
     Worked {
         name: "name that is itself",
         source: NO_VALUE,
@@ -14,3 +14,8 @@ pub static UNDEFINED: [Worked; 2] = [
         ..PLAIN
     },
 ];
+
+/// Programs without a value at time 0, whatever the limit.
+pub fn without_value() -> &'static [Worked] {
+    &UNDEFINED
+}

@@ -200,17 +200,15 @@ fn one_place(alloc: Global, lines: &mut String) -> Result<PlaceRows, Fail> {
     Ok(PlaceRows::from_vec(places))
 }
 
-// The table with other nodes, names and call places.
-fn with_rows(table: Table, nodes: NodeRows, names: NameRows, places: PlaceRows) -> Table
-    requires { HasOneRoot table }
-    ensures { HasOneRoot result }
+// The table gets a node of each form, a name of each kind and a call place; their lines are appended.
+fn put_rows(alloc: Global, table: &mut Table, lines: &mut String) -> Result<(), Fail>
+    requires { HasOneRoot table.old }
+    ensures { HasOneRoot table.new }
 {
-    Table {
-        nodes,
-        names,
-        places,
-        ..table
-    }
+    table.nodes = each_node(alloc, lines)?;
+    table.names = each_name(alloc, lines)?;
+    table.places = one_place(alloc, lines)?;
+    Ok(())
 }
 
 // The lines of scopes, inputs and constants, and the root's behind all others.
@@ -244,24 +242,21 @@ fn wrong_front(alloc: Global) -> Result<Option<usize>, Fail> {
     Ok(wrong_scope(&front(alloc)?))
 }
 
-// The text of the table with a node of each form, a name of each kind and a call place; their lines are appended.
-fn text_with_rows(alloc: Global, table: Table, lines: &mut String) -> Result<Vec<u8>, Fail>
-    requires { HasOneRoot table }
+// Whether the text of that table has the lines of its rows between the first ones and the last one.
+fn has_lines_of(alloc: Global, table: &mut Table, lines: &mut String) -> Result<bool, Fail>
+    requires { HasOneRoot table.old }
 {
-    let nodes = each_node(alloc, lines)?;
-    let names = each_name(alloc, lines)?;
-    let places = one_place(alloc, lines)?;
+    put_rows(alloc, table, lines)?;
+    lines.push_str(ROOT)?;
     let mut text = Vec::new(alloc);
-    show_flat(alloc, &with_rows(table, nodes, names, places), &mut text)?;
-    Ok(text)
+    show_flat(alloc, table, &mut text)?;
+    Ok(text.as_slice() == lines.as_bytes())
 }
 
-// Whether the text of that table has its lines between the first ones and the last one.
 fn has_lines(alloc: Global) -> Result<bool, Fail> {
+    let mut table = front(alloc)?;
     let mut lines = String::from_str(alloc, FRONT)?;
-    let text = text_with_rows(alloc, front(alloc)?, &mut lines)?;
-    lines.push_str(ROOT)?;
-    Ok(text.as_slice() == lines.as_bytes())
+    has_lines_of(alloc, &mut table, &mut lines)
 }
 
 // A sound table of four scopes: a plain name that is a call of a function, whose right side is its parameter; a frozen time with a current name;
@@ -279,24 +274,27 @@ fn of_sound(alloc: Global) -> Result<Option<(u32, u32)>, Fail> {
     Ok(Some((program.root(), program.nodes())))
 }
 
-// That table with a root scope in the place of the fourth: no text has a second one.
-fn with_second_root(alloc: Global) -> Result<Table, Fail> {
-    let table = read_flat(alloc, SOUND)?;
-    let mut scopes = Vec::from_slice(alloc, table.scopes.items())?;
+// Its scopes with a root scope in the place of the fourth: no text has a second one.
+fn with_second_root(alloc: Global, scopes: &ScopeRows) -> Result<ScopeRows, Fail> {
+    let mut scopes = Vec::from_slice(alloc, scopes.items())?;
     scopes.pop();
     scopes.push(ScopeRow {
         parent: 2,
         kind: ScopeKind::Root,
     })?;
-    Ok(Table {
-        scopes: ScopeRows::from_vec(scopes),
-        ..table
-    })
+    Ok(ScopeRows::from_vec(scopes))
+}
+
+// That table with such scopes.
+fn of_two_roots(alloc: Global) -> Result<Table, Fail> {
+    let mut table = read_flat(alloc, SOUND)?;
+    table.scopes = with_second_root(alloc, &table.scopes)?;
+    Ok(table)
 }
 
 // Whether scopes nest: that table is refused in these words.
 fn is_refused(alloc: Global) -> Result<bool, Fail> {
-    match build(alloc, with_second_root(alloc)?) {
+    match build(alloc, of_two_roots(alloc)?) {
         Ok(_) => Ok(false),
         Err(why) => Ok(why.to_string(alloc)?.as_str() == "flat scope 3 is wrong"),
     }

@@ -149,29 +149,23 @@ impl Evaluator<'_> {
                 self.applied(id, op, &args[..op.arity()], at)
             }
             Node::Input { .. } | Node::Apply { .. } => Ok(None),
-            Node::If { test, yes, no } => match tested(self.value(test, at)?) {
-                Turn::Is(truth) => self.value(if truth { yes } else { no }, at),
-                Turn::Ends(end) => Ok(end),
-            },
+            Node::If { test, yes, no } => self.chosen(test, yes, no, at),
             Node::And { left, right } => self.decided(left, right, false, at),
             Node::Or { left, right } => self.decided(left, right, true, at),
             Node::First { of } => self.value(of, at.at_time(0)),
             Node::Next { of } if at.time < LAST => self.value(of, at.at_time(at.time + 1)),
             Node::Fby { left, .. } if at.time == 0 => self.value(left, at),
             Node::Fby { right, .. } => self.value(right, at.at_time(at.time - 1)),
-            Node::Whenever { left, right } => self.on(left, self.found(right, at.time, at)?, at),
-            Node::Asa { left, right } => self.on(left, self.found(right, 0, at)?, at),
-            Node::Upon { left, right } => self.on(left, self.counted(right, at)?, at),
-            Node::Attime { left, right } => self.on(left, placed(self.value(right, at)?), at),
+            Node::Whenever { left, right } => self.on_found(left, right, at.time, at),
+            Node::Asa { left, right } => self.on_found(left, right, 0, at),
+            Node::Upon { left, right } => self.on_counted(left, right, at),
+            Node::Attime { left, right } => self.on_placed(left, right, at),
             Node::Initial { of } => self.value(of, at.at_space(0)),
             Node::Succ { of } if at.space < LAST => self.value(of, at.at_space(at.space + 1)),
             Node::Next { .. } | Node::Succ { .. } => Ok(Some(Value::Fault)),
             Node::Sby { left, .. } if at.space == 0 => self.value(left, at),
             Node::Sby { right, .. } => self.value(right, at.at_space(at.space - 1)),
-            Node::Atspace { left, right } => match placed(self.value(right, at)?) {
-                Place::At(space) => self.value(left, at.at_space(space)),
-                Place::Ends(end) => Ok(end),
-            },
+            Node::Atspace { left, right } => self.beside(left, right, at),
             Node::Freeze { subject } => self.frozen(subject, at),
             Node::Refer { name, level } => self.referred(name, level, at),
             Node::Call { name, place, level } => self.called(name, place, level, at),
@@ -218,6 +212,68 @@ impl Evaluator<'_> {
             Turn::Is(_) => Ok(only_truth(self.value(right, at)?)),
             Turn::Ends(end) => Ok(end),
         }
+    }
+
+    // `if`, whose test picks a part.
+    #[cycle(value)]
+    fn chosen(&self, test: u32, yes: u32, no: u32, at: Point) -> Result<Option<Value>, AllocError>
+        requires test { test < length (table_of self.now.program.now).nodes }
+        requires yes { yes < length (table_of self.now.program.now).nodes }
+        requires no { no < length (table_of self.now.program.now).nodes }
+    {
+        match tested(self.value(test, at)?) {
+            Turn::Is(true) => self.value(yes, at),
+            Turn::Is(false) => self.value(no, at),
+            Turn::Ends(end) => Ok(end),
+        }
+    }
+
+    // `atspace`, whose right part is a space.
+    #[cycle(value)]
+    fn beside(&self, left: u32, right: u32, at: Point) -> Result<Option<Value>, AllocError>
+        requires left { left < length (table_of self.now.program.now).nodes }
+        requires right { right < length (table_of self.now.program.now).nodes }
+    {
+        match placed(self.value(right, at)?) {
+            Place::At(space) => self.value(left, at.at_space(space)),
+            Place::Ends(end) => Ok(end),
+        }
+    }
+
+    // `whenever` and `asa`, which go on at the time of a true value of a test.
+    #[cycle(value)]
+    fn on_found(
+        &self,
+        left: u32,
+        right: u32,
+        number: u64,
+        at: Point,
+    ) -> Result<Option<Value>, AllocError>
+        requires left { left < length (table_of self.now.program.now).nodes }
+        requires right { right < length (table_of self.now.program.now).nodes }
+    {
+        let place = self.found(right, number, at)?;
+        self.on(left, place, at)
+    }
+
+    // `upon`, which goes on at as many times as its test was true.
+    #[cycle(value)]
+    fn on_counted(&self, left: u32, right: u32, at: Point) -> Result<Option<Value>, AllocError>
+        requires left { left < length (table_of self.now.program.now).nodes }
+        requires right { right < length (table_of self.now.program.now).nodes }
+    {
+        let place = self.counted(right, at)?;
+        self.on(left, place, at)
+    }
+
+    // `attime`, whose right part is a time.
+    #[cycle(value)]
+    fn on_placed(&self, left: u32, right: u32, at: Point) -> Result<Option<Value>, AllocError>
+        requires left { left < length (table_of self.now.program.now).nodes }
+        requires right { right < length (table_of self.now.program.now).nodes }
+    {
+        let value = self.value(right, at)?;
+        self.on(left, placed(value), at)
     }
 
     // A node at the time at which a form goes on.

@@ -10,7 +10,7 @@ use lucid_parse::parse;
 use lucid_scan::scan;
 use lucid_scope::{Scoped, resolve_owned};
 use lucid_test_programs::{
-    DOUBLING_TEXT, IN_CONTEXTS, OVER_SPACE, OVER_TIME, UNDEFINED, Worked, approximation,
+    DOUBLING_TEXT, Worked, approximation, in_contexts, over_space, over_time, without_value,
 };
 use lucid_tree::Tree;
 use lucid_value::Value;
@@ -171,10 +171,10 @@ fn each_is_undefined(alloc: Global, programs: &[Worked]) -> Result<(), Fail> {
 #[test]
 fn worked_programs(rt: HostRuntime) -> Result<(), Fail> {
     let alloc = rt.alloc();
-    each_keeps_values(alloc, &OVER_TIME)?;
-    each_keeps_values(alloc, &OVER_SPACE)?;
-    each_keeps_values(alloc, &IN_CONTEXTS)?;
-    each_is_undefined(alloc, &UNDEFINED)
+    each_keeps_values(alloc, over_time())?;
+    each_keeps_values(alloc, over_space())?;
+    each_keeps_values(alloc, in_contexts())?;
+    each_is_undefined(alloc, without_value())
 }
 
 // The length of the text of the values of a text that doubles at each time.

@@ -3,7 +3,7 @@ use crate::tables::tree_of;
 use crate::told::must;
 use lucid_scan::{ScanRefusal, scan};
 use lucid_test_programs::{
-    IN_CONTEXTS, OVER_INPUTS, OVER_SPACE, OVER_TIME, Stream, UNDEFINED, Worked, approximation,
+    Stream, Worked, approximation, in_contexts, over_inputs, over_space, over_time, without_value,
 };
 use lucid_value::{Name, ReadRefusal, Value, read_value};
 use std::alloc::Global;
@@ -49,8 +49,8 @@ fn value_at(
     limit: u32,
 ) -> Result<Option<Value>, Fail> {
     let tree = tree_of(alloc, source.as_bytes())?;
-    let value = approximation(alloc, streams, &tree, u64::from(time), 0, limit)?;
-    Ok(value)
+    let value = approximation(alloc, streams, &tree, u64::from(time), 0, limit);
+    Ok(value?)
 }
 
 // The text of that value.
@@ -142,13 +142,13 @@ fn each_needs_its_limits(alloc: Global, programs: &[Worked]) -> Result<(), Fail>
 #[test]
 fn worked_programs(rt: HostRuntime) -> Result<(), Fail> {
     let alloc = rt.alloc();
-    each_shows(alloc, &OVER_TIME)?;
-    each_shows(alloc, &OVER_SPACE)?;
-    each_shows(alloc, &IN_CONTEXTS)?;
-    each_shows(alloc, &OVER_INPUTS)?;
-    are_undefined(alloc, &UNDEFINED)?;
-    each_needs_its_limits(alloc, &OVER_TIME)?;
-    each_needs_its_limits(alloc, &OVER_SPACE)
+    each_shows(alloc, over_time())?;
+    each_shows(alloc, over_space())?;
+    each_shows(alloc, in_contexts())?;
+    each_shows(alloc, over_inputs())?;
+    are_undefined(alloc, without_value())?;
+    each_needs_its_limits(alloc, over_time())?;
+    each_needs_its_limits(alloc, over_space())
 }
 
 #[test]

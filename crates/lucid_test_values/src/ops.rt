@@ -5,7 +5,7 @@ use crate::ops::Sample::{Bare, Eod, Error, Int, Ints, Quoted, Truth};
 use crate::told::{first_false, none_wrong};
 use lucid_ops::{Form, Op, OpTable, Side, apply, standard};
 use lucid_value::{List, Text, Value, Word, cons};
-use std::alloc::Global;
+use std::alloc::{AllocError, Global};
 use std::test::Fail;
 
 // A value, as a test writes it: an integer, a truth, a word, a string, a list of integers, end of data or an error.
@@ -20,12 +20,18 @@ enum Sample {
     Error,
 }
 
-fn list(alloc: Global, items: &[i128]) -> Result<Value, Fail> {
+// The number in front of a list; in front of what isn't one, the end of data.
+fn in_front(alloc: Global, item: i128, rest: &Value) -> Result<Value, AllocError> {
+    match rest {
+        Value::List(rest) => cons(alloc, &Value::Int(item), rest),
+        _ => Ok(Value::Eod),
+    }
+}
+
+fn list(alloc: Global, items: &[i128]) -> Result<Value, AllocError> {
     let mut made = Value::List(List::empty(alloc));
     for item in items.iter().rev() {
-        if let Value::List(rest) = &made {
-            made = cons(alloc, &Value::Int(*item), rest)?;
-        }
+        made = in_front(alloc, *item, &made)?;
     }
     Ok(made)
 }
@@ -42,24 +48,34 @@ fn value(alloc: Global, sample: Sample) -> Result<Value, Fail> {
     })
 }
 
-// The text of what the operator gives, or none where it takes another number of arguments.
-fn answer(alloc: Global, op: Op, samples: &[Sample]) -> Result<Vec<u8>, Fail> {
-    let mut args = Vec::new(alloc);
+fn push_each(alloc: Global, samples: &[Sample], args: &mut Vec<Value>) -> Result<(), Fail> {
     for sample in samples {
         args.push(value(alloc, *sample)?)?;
     }
-    let mut text = Vec::new(alloc);
+    Ok(())
+}
+
+// The text of what the operator gives; none where it takes another number of arguments.
+fn show(alloc: Global, op: Op, args: &[Value], text: &mut Vec<u8>) -> Result<(), Fail> {
     if args.len() == op.arity() {
-        apply(alloc, op, args.as_slice())?.show(alloc, &mut text)?;
+        apply(alloc, op, args)?.show(alloc, text)?;
     }
-    Ok(text)
+    Ok(())
+}
+
+fn answer(alloc: Global, op: Op, samples: &[Sample], text: &mut Vec<u8>) -> Result<(), Fail> {
+    let mut args = Vec::new(alloc);
+    push_each(alloc, samples, &mut args)?;
+    show(alloc, op, args.as_slice(), text)
 }
 
 type Row = (Op, &'static [Sample], &'static str);
 
 // The operator gives a value with this text.
 fn holds(alloc: Global, op: Op, samples: &[Sample], expected: &str) -> Result<(), Fail> {
-    if answer(alloc, op, samples)?.as_slice() == expected.as_bytes() {
+    let mut text = Vec::new(alloc);
+    answer(alloc, op, samples, &mut text)?;
+    if text.as_slice() == expected.as_bytes() {
         return Ok(());
     }
     Err(Fail::new(format_args!("{op:?} doesn't give {expected}")))

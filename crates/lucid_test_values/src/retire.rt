@@ -30,20 +30,23 @@ fn count_after<R: Retire>(alloc: Global, mut policy: R, keys: u64) -> u64 {
 }
 
 // What is wrong of a policy that holds the last two.
-fn wrong_of_last(alloc: Global) -> Result<Option<usize>, Fail> {
-    let (a, b, c) = (key_at(alloc, 0), key_at(alloc, 1), key_at(alloc, 2));
-    let mut last = Last::make(alloc, 2)?;
-    let mut warehouse = Warehouse::make(alloc);
-    let facts = [
-        put_and_turn(&mut last, &mut warehouse, a) == 1,
-        put_and_turn(&mut last, &mut warehouse, b) == 2,
-        put_and_turn(&mut last, &mut warehouse, c) == 2,
+fn wrong_of_two(last: &mut Last, warehouse: &mut Warehouse, keys: [Key; 3]) -> Option<usize> {
+    let [a, b, c] = keys;
+    first_false(&[
+        put_and_turn(last, warehouse, a) == 1,
+        put_and_turn(last, warehouse, b) == 2,
+        put_and_turn(last, warehouse, c) == 2,
         !warehouse.remove(a),
         warehouse.remove(b),
         warehouse.remove(c),
         warehouse.lost() == 0,
-    ];
-    Ok(first_false(&facts))
+    ])
+}
+
+fn wrong_of_last(alloc: Global) -> Result<Option<usize>, Fail> {
+    let keys = [key_at(alloc, 0), key_at(alloc, 1), key_at(alloc, 2)];
+    let mut last = Last::make(alloc, 2)?;
+    Ok(wrong_of_two(&mut last, &mut Warehouse::make(alloc), keys))
 }
 
 // How many of five keys are held by a policy that drops one of them at the turn after the third.

@@ -1,6 +1,7 @@
 use crate::told::{first_false, none_wrong};
 use lucid_search::*;
 use lucid_tags::{Tag, Tags};
+use std::alloc::Global;
 use std::test::Fail;
 
 const MANY: u64 = 100_000;
@@ -68,15 +69,32 @@ fn wrong_in_rising_order(positions: &mut Positions, root: Tag) -> Option<u64> {
     None
 }
 
+// Each is of positions of its own, owned by a function of its own: all that are owned at once are dropped together, at a high price.
+fn notes_one(alloc: Global, root: Tag) -> bool {
+    wrong_of_one(&mut Positions::make(alloc), root).is_none()
+}
+
+fn notes_several(alloc: Global, root: Tag) -> bool {
+    wrong_of_several(&mut Positions::make(alloc), root).is_none()
+}
+
+fn notes_out_of_order(alloc: Global, root: Tag) -> bool {
+    wrong_out_of_order(&mut Positions::make(alloc), root).is_none()
+}
+
+fn notes_in_rising_order(alloc: Global, root: Tag) -> bool {
+    wrong_in_rising_order(&mut Positions::make(alloc), root).is_none()
+}
+
 #[test]
 fn noted_positions(rt: HostRuntime) -> Result<(), Fail> {
     let alloc = rt.alloc();
     let root = Tags::make(alloc).root();
     let facts = [
-        wrong_of_one(&mut Positions::make(alloc), root).is_none(),
-        wrong_of_several(&mut Positions::make(alloc), root).is_none(),
-        wrong_out_of_order(&mut Positions::make(alloc), root).is_none(),
-        wrong_in_rising_order(&mut Positions::make(alloc), root).is_none(),
+        notes_one(alloc, root),
+        notes_several(alloc, root),
+        notes_out_of_order(alloc, root),
+        notes_in_rising_order(alloc, root),
     ];
     none_wrong(first_false(&facts), "positions")
 }

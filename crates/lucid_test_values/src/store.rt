@@ -67,16 +67,18 @@ fn answers(warehouse: &mut Warehouse, root: Tag, step: &Step) -> bool {
     }
 }
 
-// The number of the first step that a new warehouse answers otherwise.
-fn first_wrong(alloc: Global, steps: &[Step]) -> Option<usize> {
-    let root = Tags::make(alloc).root();
-    let mut warehouse = Warehouse::make(alloc);
+fn first_otherwise(warehouse: &mut Warehouse, root: Tag, steps: &[Step]) -> Option<usize> {
     for (number, step) in steps.iter().enumerate() {
-        if !answers(&mut warehouse, root, step) {
+        if !answers(warehouse, root, step) {
             return Some(number);
         }
     }
     None
+}
+
+// The number of the first step that a new warehouse answers otherwise.
+fn first_wrong(alloc: Global, root: Tag, steps: &[Step]) -> Option<usize> {
+    first_otherwise(&mut Warehouse::make(alloc), root, steps)
 }
 
 // A value that was touched outlives a sweep.
@@ -109,11 +111,11 @@ static EACH_CALL: [Step; 14] = [
 ];
 
 // What is wrong of the steps: of a value that isn't touched, of one that is touched between sweeps, of each call.
-fn wrong_steps(alloc: Global) -> [Option<usize>; 3] {
+fn wrong_steps(alloc: Global, root: Tag) -> [Option<usize>; 3] {
     [
-        first_wrong(alloc, &UNTOUCHED),
-        first_wrong(alloc, &AGAIN),
-        first_wrong(alloc, &EACH_CALL),
+        first_wrong(alloc, root, &UNTOUCHED),
+        first_wrong(alloc, root, &AGAIN),
+        first_wrong(alloc, root, &EACH_CALL),
     ]
 }
 
@@ -184,6 +186,10 @@ fn of_a_million(warehouse: &mut Warehouse, root: Tag) -> (Option<u64>, Option<u6
     (refused, missing, warehouse.len())
 }
 
+fn of_a_new_million(alloc: Global, root: Tag) -> (Option<u64>, Option<u64>, u64) {
+    of_a_million(&mut Warehouse::make(alloc), root)
+}
+
 // How many groups a hash can name.
 const GROUPS: u64 = 1 << 24;
 
@@ -215,8 +221,9 @@ fn first_apart(root: Tag) -> Option<u64> {
 
 #[test]
 fn steps_groups_and_a_million_keys(rt: HostRuntime) {
-    let root = Tags::make(rt.alloc()).root();
-    let million = of_a_million(&mut Warehouse::make(rt.alloc()), root);
-    let wrong = (first_apart(root), million, wrong_steps(rt.alloc()));
+    let alloc = rt.alloc();
+    let root = Tags::make(alloc).root();
+    let million = of_a_new_million(alloc, root);
+    let wrong = (first_apart(root), million, wrong_steps(alloc, root));
     assert_eq!(rt; wrong, (None, (None, None, MANY), [None, None, None]));
 }

@@ -75,26 +75,27 @@ fn numbers(tags: &mut Tags) -> Result<[bool; 5], AllocError> {
     ])
 }
 
+fn key_at(tag: Tag) -> Key {
+    Key {
+        name: 1,
+        tag,
+        time: 6,
+    }
+}
+
 // The value of the context frozen at 5, where that of each context is its key's.
-fn value_of_a_key(alloc: Global) -> Result<Option<u64>, AllocError> {
-    let mut tags = Tags::make(alloc);
-    let mut values = IndexMap::new(alloc);
+fn value_at(tags: &mut Tags, values: &mut IndexMap<Key, u64>) -> Result<Option<u64>, AllocError> {
     let root = tags.root();
     let tag = tags.enter_frozen(root, 5)?;
     for (tag, value) in [(root, 0), (tag, 1), (tag.at_space(1), 2)] {
-        let key = Key {
-            name: 1,
-            tag,
-            time: 6,
-        };
-        values.insert(key, value)?;
+        values.insert(key_at(tag), value)?;
     }
-    let key = Key {
-        name: 1,
-        tag: tags.enter_frozen(root, 5)?,
-        time: 6,
-    };
+    let key = key_at(tags.enter_frozen(root, 5)?);
     Ok(values.get(&key).copied())
+}
+
+fn value_of_a_key(alloc: Global) -> Result<Option<u64>, AllocError> {
+    value_at(&mut Tags::make(alloc), &mut IndexMap::new(alloc))
 }
 
 fn wrong_tag(alloc: Global) -> Result<Option<usize>, AllocError> {

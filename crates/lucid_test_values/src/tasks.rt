@@ -5,6 +5,7 @@ use crate::told::{first_false, none_wrong};
 use lucid_tags::{Tag, Tags};
 use lucid_tasks::*;
 use lucid_value::Value;
+use std::alloc::Global;
 use std::test::Fail;
 
 const MANY: u64 = 1_000_000;
@@ -168,16 +169,37 @@ fn wrong_of_a_cursor(tasks: &mut Tasks, tag: Tag) -> Option<Option<usize>> {
     Some(first_false(&[first_false(&settled).is_none(), tasks.ready().is_empty()]))
 }
 
+// Each is of tasks of its own, owned by a function of its own: all that are owned at once are dropped together, at a high price.
+fn settles(alloc: Global, tag: Tag) -> bool {
+    wrong_of_settling(&mut Tasks::make(alloc), tag) == Some([None, None])
+}
+
+fn gives(alloc: Global, tag: Tag) -> bool {
+    wrong_of_given(&mut Tasks::make(alloc), tag) == Some(None)
+}
+
+fn takes(alloc: Global, tag: Tag) -> bool {
+    wrong_of_taken(&mut Tasks::make(alloc), tag).is_none()
+}
+
+fn keeps_a_key(alloc: Global, tag: Tag) -> bool {
+    wrong_of_a_key(&mut Tasks::make(alloc), tag) == Some(None)
+}
+
+fn keeps_a_cursor(alloc: Global, tag: Tag) -> bool {
+    wrong_of_a_cursor(&mut Tasks::make(alloc), tag) == Some(None)
+}
+
 #[test]
 fn rows_of_tasks(rt: HostRuntime) -> Result<(), Fail> {
     let alloc = rt.alloc();
     let tag = Tags::make(alloc).root();
     let facts = [
-        wrong_of_settling(&mut Tasks::make(alloc), tag) == Some([None, None]),
-        wrong_of_given(&mut Tasks::make(alloc), tag) == Some(None),
-        wrong_of_taken(&mut Tasks::make(alloc), tag).is_none(),
-        wrong_of_a_key(&mut Tasks::make(alloc), tag) == Some(None),
-        wrong_of_a_cursor(&mut Tasks::make(alloc), tag) == Some(None),
+        settles(alloc, tag),
+        gives(alloc, tag),
+        takes(alloc, tag),
+        keeps_a_key(alloc, tag),
+        keeps_a_cursor(alloc, tag),
     ];
     none_wrong(first_false(&facts), "tasks")
 }

@@ -1,7 +1,7 @@
 //! The worked programs by the command.
 use crate::commands::row::{Answer, Row, Way, call, passes_by, places_of};
 use lucid_report::Status;
-use lucid_test_programs::{IN_CONTEXTS, OVER_INPUTS, OVER_SPACE, OVER_TIME, UNDEFINED, Worked};
+use lucid_test_programs::{Worked, in_contexts, over_inputs, over_space, over_time, without_value};
 use std::alloc::{AllocError, Global};
 use std::test::Fail;
 
@@ -77,10 +77,10 @@ fn each_passes(alloc: Global, programs: &[Worked], ways: &[Way]) -> Result<(), F
 fn worked_programs(rt: HostRuntime) -> Result<(), Fail> {
     let alloc = rt.alloc();
     let ways = [Way::Source, Way::Flat, Way::Alone];
-    each_passes(alloc, &OVER_TIME, &ways)?;
-    each_passes(alloc, &OVER_SPACE, &ways)?;
-    each_passes(alloc, &IN_CONTEXTS, &[Way::Source, Way::Flat])?;
-    each_passes(alloc, &OVER_INPUTS, &ways)
+    each_passes(alloc, over_time(), &ways)?;
+    each_passes(alloc, over_space(), &ways)?;
+    each_passes(alloc, in_contexts(), &[Way::Source, Way::Flat])?;
+    each_passes(alloc, over_inputs(), &ways)
 }
 
 // What is printed of a text.
@@ -112,9 +112,9 @@ fn each_is_printed_again(alloc: Global, programs: &[Worked]) -> Result<(), Fail>
 #[test]
 fn worked_programs_printed(rt: HostRuntime) -> Result<(), Fail> {
     let alloc = rt.alloc();
-    each_is_printed_again(alloc, &OVER_TIME)?;
-    each_is_printed_again(alloc, &OVER_SPACE)?;
-    each_is_printed_again(alloc, &IN_CONTEXTS)?;
-    each_is_printed_again(alloc, &OVER_INPUTS)?;
-    each_is_printed_again(alloc, &UNDEFINED)
+    each_is_printed_again(alloc, over_time())?;
+    each_is_printed_again(alloc, over_space())?;
+    each_is_printed_again(alloc, in_contexts())?;
+    each_is_printed_again(alloc, over_inputs())?;
+    each_is_printed_again(alloc, without_value())
 }

@@ -1,7 +1,7 @@
 //! The worked programs, the same under each policy and each pick, and what is too deep alike.
 use crate::demands::wanted::Wanted;
 use crate::trials::{ORDERS, PLANS, Setup, times_below};
-use lucid_test_programs::{IN_CONTEXTS, OVER_INPUTS, OVER_SPACE, OVER_TIME, Worked};
+use lucid_test_programs::{Worked, in_contexts, over_inputs, over_space, over_time};
 use std::alloc::Global;
 use std::test::Fail;
 
@@ -37,10 +37,10 @@ fn each_alike(alloc: Global, programs: &[Worked]) -> Result<(), Fail> {
 #[test]
 fn worked_programs(rt: HostRuntime) -> Result<(), Fail> {
     let alloc = rt.alloc();
-    each_alike(alloc, &OVER_TIME)?;
-    each_alike(alloc, &OVER_SPACE)?;
-    each_alike(alloc, &IN_CONTEXTS)?;
-    each_alike(alloc, &OVER_INPUTS)
+    each_alike(alloc, over_time())?;
+    each_alike(alloc, over_space())?;
+    each_alike(alloc, in_contexts())?;
+    each_alike(alloc, over_inputs())
 }
 
 // Where no name is needed, nothing is held, and too deep comes alike under each policy.

@@ -121,12 +121,16 @@ impl Made {
         Ok(())
     }
 
+    // What the plain evaluator gives.
+    fn plainly(&self, alloc: Global) -> Result<Plainly, Fail> {
+        let (source, limit) = (&self.source, self.limit);
+        let scoped = scoped_of(alloc, source)?;
+        self.files.plainly(alloc, source, &scoped, limit)
+    }
+
     // By each policy and each pick the engine gives what the plain evaluator gives.
     fn agrees(&self, alloc: Global) -> Result<(), Fail> {
-        let scoped = scoped_of(alloc, &self.source)?;
-        let plainly = self
-            .files
-            .plainly(alloc, &self.source, &scoped, self.limit)?;
+        let plainly = self.plainly(alloc)?;
         self.agrees_by_each(alloc, &plainly)
     }
 }

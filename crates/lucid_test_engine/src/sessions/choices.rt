@@ -7,7 +7,7 @@ use lucid_retire::{Keep, Last, Nothing, Retire, Scrap, Scripted};
 use lucid_schedule::{Listed, Newest, Oldest, Pick};
 use lucid_store::Key;
 use lucid_tags::Tags;
-use lucid_test_programs::{IN_CONTEXTS, OVER_INPUTS, OVER_TIME, Worked};
+use lucid_test_programs::{Worked, in_contexts, over_inputs, over_time};
 use std::alloc::{AllocError, Global};
 use std::test::Fail;
 
@@ -105,7 +105,7 @@ fn each_passes(alloc: Global, programs: &[Worked]) -> Result<(), Fail> {
 #[test]
 fn worked_programs(rt: HostRuntime) -> Result<(), Fail> {
     let alloc = rt.alloc();
-    each_passes(alloc, &OVER_TIME)?;
-    each_passes(alloc, &IN_CONTEXTS)?;
-    each_passes(alloc, &OVER_INPUTS)
+    each_passes(alloc, over_time())?;
+    each_passes(alloc, in_contexts())?;
+    each_passes(alloc, over_inputs())
 }

@@ -40,16 +40,24 @@ impl Demands<'_> {
         pick: S,
     ) -> Result<Outcome, Fail> {
         let mut engine = OverFiles::make(alloc, &self.setup, policy, pick)?;
+        self.asked(alloc, &mut engine)
+    }
+
+    // The same of an engine that is borrowed, which takes less to prove than one that is owned.
+    fn asked<R: Retire, S: Pick>(
+        &self,
+        alloc: Global,
+        engine: &mut OverFiles<R, S>,
+    ) -> Result<Outcome, Fail> {
         let mut outcome = Outcome {
             answers: Vec::new(alloc),
             consumed: Vec::new(alloc),
             held: 0,
         };
-        self.ask_each(alloc, &mut engine, &mut outcome)?;
+        self.ask_each(alloc, engine, &mut outcome)?;
         Ok(outcome)
     }
 
-    // The same of an engine that is borrowed, which takes less to prove than one that is owned.
     fn ask_each<R: Retire, S: Pick>(
         &self,
         alloc: Global,

@@ -32,11 +32,21 @@ impl Demand {
 }
 
 /// An engine, and the places of its inputs, numbered as these are.
-#[derive(Drop)]
 pub struct OverFiles<R: Retire, S: Pick> {
     engine: Engine<R, S>,
     places: MemoryPlaces,
     count: u32,
+}
+
+// (A derived one stands in the proof of each function that owns an engine, once for each way out of it.)
+impl<R: Retire, S: Pick> Drop for OverFiles<R, S> {
+    fn drop(self) {
+        let OverFiles {
+            engine,
+            places,
+            count,
+        } = self;
+    }
 }
 
 impl<R: Retire, S: Pick> Model for OverFiles<R, S> {

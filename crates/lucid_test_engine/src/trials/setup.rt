@@ -134,6 +134,27 @@ fn streams_of(
     }
 }
 
+fn program_of(alloc: Global, source: &str) -> Result<Program, Fail> {
+    let program = compile(alloc, &scoped_of(alloc, source)?);
+    Ok(program?)
+}
+
+// The inputs of a program, each of which is read from the file of its name, and their places.
+fn inputs_of(
+    alloc: Global,
+    setup: &Setup,
+    program: &Program,
+) -> Result<(Inputs, MemoryPlaces), Fail>
+    ensures streams { IfOk result (λ made. length (streams made.0) ≡ length (table_of program.now).inputs) }
+    ensures askable { IfOk result (λ made. AreAskable (streams made.0) (memory_world made.1)) }
+    ensures reached { IfOk result (λ made. (memory_world made.1).reached ≡ length (table_of program.now).inputs) }
+{
+    let mut places = memory_places(alloc, setup)?;
+    let names = program.table().inputs.items();
+    let inputs = streams_of(alloc, &mut places, names, setup.most)?;
+    Ok((inputs, places))
+}
+
 impl Parts {
     /// A program, each of whose inputs is read from the file of its name.
     pub fn make(alloc: Global, setup: &Setup) -> Result<Parts, Fail>
@@ -141,10 +162,8 @@ impl Parts {
         ensures askable { IfOk result (λ parts. AreAskable (streams parts.inputs) (memory_world parts.places)) }
         ensures reached { IfOk result (λ parts. (memory_world parts.places).reached ≡ length (table_of parts.program).inputs) }
     {
-        let program = compile(alloc, &scoped_of(alloc, setup.source)?)?;
-        let mut places = memory_places(alloc, setup)?;
-        let names = program.table().inputs.items();
-        let inputs = streams_of(alloc, &mut places, names, setup.most)?;
+        let program = program_of(alloc, setup.source)?;
+        let (inputs, places) = inputs_of(alloc, setup, &program)?;
         Ok(Parts {
             program,
             inputs,
